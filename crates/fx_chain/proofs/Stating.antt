@@ -1,8 +1,7 @@
 -- What a run came to, as functions of the plan and the bytes.
-use Rattle.std.proofs.Common.{◌≡◌, ℕ, zero, suc, ◌+◌, ◌*◌, ◌/◌, ◌%◌, ◌^◌, ◌<◌, ◌≤◌, ◌⊎◌, inl, inr, map, Bool, true, false, cond, List, [], ◌∷◌, ◌++◌, length, drop, take, refl, sym, ap, ◌∙◌, arith, Option}
+use Rattle.std.proofs.Common.{◌≡◌, ℕ, zero, suc, ◌+◌, ◌*◌, ◌/◌, ◌%◌, ◌^◌, ◌<◌, ◌≤◌, ◌⊎◌, inl, inr, map, Bool, true, false, cond, List, [], ◌∷◌, ◌++◌, length, drop, take, refl, sym, ap, ◌∙◌, arith, Option, IfErr, IfOk, MatchBool, Result, Ok, Err, sum}
 use Rattle.std.proofs.lemmas.List.{length-map, length-take-le, take-append-drop, take-map, take_all}
 use Rattle.std.proofs.lemmas.Nat.{le-div}
-use Rattle.std.specs.Prelude.{IfErr, IfOk, MatchBool, Result, Ok, Err, sum}
 use Rattle.fx_frame_base.specs.declared.coding.Coding.{Coding}
 use Rattle.fx_frame_base.specs.declared.coding.Coding.TheVariants.{U8, S8, S16Le, S16Be, S24Le, S24Be, S32Le, S32Be}
 use Rattle.fx_frame_base.specs.Frame.{Samples}

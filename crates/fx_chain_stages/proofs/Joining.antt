@@ -1,6 +1,5 @@
 -- When stages of one type are stages of any effect: what such a stage took, gave and was fed, the stage of any effect did.
-use Rattle.std.proofs.Common.{◌≡◌, List, [], ◌∷◌, ◌++◌, ap, refl}
-use Rattle.std.specs.Prelude.{ℕ, ℤ, Option, Some, None, FitsSigned, option_to_list}
+use Rattle.std.proofs.Common.{◌≡◌, List, [], ◌∷◌, ◌++◌, ap, refl, ℕ, ℤ, Option, Some, None, FitsSigned, option_to_list}
 use Rattle.std.specs.Int.{w32}
 use Rattle.std.specs.List.{All}
 use Rattle.std.proofs.lemmas.List.Elements.{All-append, All-cons, All-head, All-nil, All-tail}

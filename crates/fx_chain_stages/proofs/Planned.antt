@@ -1,6 +1,5 @@
 -- What a plan says of its effects holds of their stages.
-use Rattle.std.proofs.Common.{◌≡◌, ℕ, ◌+◌, ◌-◌, ◌*◌, ◌/◌, ◌^◌, ◌≤◌, List, [], ◌∷◌, true, false, length, map, replicate, refl, arith, sym, ap, ◌∙◌}
-use Rattle.std.specs.Prelude.{Some, sum_by, nat_le}
+use Rattle.std.proofs.Common.{◌≡◌, ℕ, ◌+◌, ◌-◌, ◌*◌, ◌/◌, ◌^◌, ◌≤◌, List, [], ◌∷◌, true, false, length, map, replicate, refl, arith, sym, ap, ◌∙◌, Some, sum_by, nat_le}
 use Rattle.std.specs.List.{All, list_any}
 use Rattle.std.proofs.lemmas.Bool.Decides.{nat_tests}
 use Rattle.fx_chain_flow.specs.Parts.{Matching, Within, max_of, work}

@@ -1,8 +1,7 @@
 -- Written by scripts/effects from effects/*.toml. Do not edit.
 -- What is proved of the stage of each effect: which samples of the frames that it stores have 32 bits, the channels that it gives,
 -- and that it is a stage of any effect.
-use Rattle.std.proofs.Common.{refl}
-use Rattle.std.specs.Prelude.{length}
+use Rattle.std.proofs.Common.{refl, length}
 use Rattle.fx_chain_stages.specs.declared.registry.EffectStage.{EffectStage}
 use Rattle.fx_chain_stages.specs.declared.registry.EffectStage.TheVariants as stages
 use Rattle.fx_plan_effects.specs.Registry.{OfTrim, OfPad, OfDelay, OfEcho, OfEchos, OfFade, OfVol, OfDcShift, OfFir, OfRemix, OfUpsample, OfDownsample}

@@ -1,6 +1,5 @@
 -- How many frames `pad` makes of so many.
-use Rattle.std.proofs.Common.{◌≡◌, ℕ, ◌+◌, ◌-◌, max, true, cond, List, [], ◌∷◌, map, length, filter, sum_by, zip, refl, sym, ap, ◌∙◌, arith, zero-add, not}
-use Rattle.std.specs.Prelude.{nat_le}
+use Rattle.std.proofs.Common.{◌≡◌, ℕ, ◌+◌, ◌-◌, max, true, cond, List, [], ◌∷◌, map, length, filter, sum_by, zip, refl, sym, ap, ◌∙◌, arith, zero-add, not, nat_le}
 use Rattle.std.proofs.lemmas.List.Sums.{sum_by-cons}
 use Rattle.std.proofs.lemmas.Bool.{le-leb}
 use Rattle.fx_frame_base.specs.Frame.{Samples}

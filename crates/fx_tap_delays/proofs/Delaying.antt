@@ -1,6 +1,5 @@
 -- Frames that all channels delay by as many frames as the line has places.
-use Rattle.std.proofs.Common.{◌≡◌, ◌+◌, ◌-◌, ◌*◌, ◌<◌, ◌≤◌, ℕ, ℤ, zero, suc, min, inl, inr, ◌⊎◌, cond, List, [], ◌∷◌, ◌++◌, length, take, drop, get_or, pos, refl, sym, ap, ◌∙◌, arith, zero-add, length-append, replicate}
-use Rattle.std.specs.Prelude.{Bool, nat_le, nat_lt, slice_index, true, false}
+use Rattle.std.proofs.Common.{◌≡◌, ◌+◌, ◌-◌, ◌*◌, ◌<◌, ◌≤◌, ℕ, ℤ, zero, suc, min, inl, inr, ◌⊎◌, cond, List, [], ◌∷◌, ◌++◌, length, take, drop, get_or, pos, refl, sym, ap, ◌∙◌, arith, zero-add, length-append, replicate, Bool, nat_le, nat_lt, slice_index, true, false}
 use Rattle.std.specs.Int.{w32}
 use Rattle.std.specs.List.{All}
 use borrow.Author.Tests.{ltb-true, ltb-false}

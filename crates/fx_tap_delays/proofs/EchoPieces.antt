@@ -1,6 +1,5 @@
 -- Frames with their echoes, many of them made at once.
-use Rattle.std.proofs.Common.{◌≡◌, ◌+◌, ◌-◌, ◌*◌, ◌<◌, ◌≤◌, ℕ, ℤ, inl, inr, pos, true, false, List, [], ◌++◌, length, map, take, get_or, sym, ap, ◌∙◌, arith}
-use Rattle.std.specs.Prelude.{nat_le}
+use Rattle.std.proofs.Common.{◌≡◌, ◌+◌, ◌-◌, ◌*◌, ◌<◌, ◌≤◌, ℕ, ℤ, inl, inr, pos, true, false, List, [], ◌++◌, length, map, take, get_or, sym, ap, ◌∙◌, arith, nat_le}
 use Rattle.std.proofs.lemmas.Bool.{cases_lt, le-leb, lt-leb}
 use Rattle.std.proofs.lemmas.List.{get_or-append-add, get_or_append_left, get_or-take}
 use Rattle.fx_fixed.specs.Rounding.{rounding}

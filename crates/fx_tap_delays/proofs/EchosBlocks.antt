@@ -1,6 +1,5 @@
 -- Many frames that an `echos` takes and gives in one call.
-use Rattle.std.proofs.Common.{◌≡◌, ◌+◌, ◌*◌, ◌<◌, ◌≤◌, ◌^◌, ℕ, ℤ, pos, false, List, [], ◌∷◌, length, map, replicate, refl, sym, ap, ◌∙◌, arith, add-zero, length-append, subst}
-use Rattle.std.specs.Prelude.{None, Some}
+use Rattle.std.proofs.Common.{◌≡◌, ◌+◌, ◌*◌, ◌<◌, ◌≤◌, ◌^◌, ℕ, ℤ, pos, false, List, [], ◌∷◌, length, map, replicate, refl, sym, ap, ◌∙◌, arith, add-zero, length-append, subst, None, Some}
 use Rattle.std.proofs.lemmas.List.{length-map}
 use Rattle.fx_tap_delays.specs.DelayExtents.{sum_of_delays}
 use Rattle.fx_frame_base.specs.declared.feed.Passing.TheVariants.{Through}

@@ -1,6 +1,5 @@
 -- What an `echos` counted and stored, where it froze.
-use Rattle.std.proofs.Common.{ℕ, ℤ, ◌≡◌, ◌+◌, ◌*◌, ◌≤◌, ◌++◌, ◌∙◌, Option, List, length, refl, sym, ap, arith, length-append}
-use Rattle.std.specs.Prelude.{nat_eq, option_to_list, slice_index_or}
+use Rattle.std.proofs.Common.{ℕ, ℤ, ◌≡◌, ◌+◌, ◌*◌, ◌≤◌, ◌++◌, ◌∙◌, Option, List, length, refl, sym, ap, arith, length-append, nat_eq, option_to_list, slice_index_or}
 use Rattle.fx_tap_delays.specs.DelayExtents.{sum_of_delays}
 use Rattle.fx_frame_base.specs.Frame.{Samples}
 use Rattle.fx_frame_line.specs.Line.{Frames}

@@ -1,6 +1,5 @@
 -- Frames that lie one after another, filtered channel by channel, and a `Fir` that they go through.
-use Rattle.std.proofs.Common.{◌≡◌, ℕ, ℤ, pos, zero, suc, append-nil, ◌+◌, ◌-◌, ◌*◌, ◌<◌, ◌≤◌, Bool, false, List, [], ◌∷◌, ◌++◌, length, map, min, take, drop, get_or, reverse, refl, sym, ap, ◌∙◌, arith, add-zero, zero-add, length-append, subst}
-use Rattle.std.specs.Prelude.{None, Some, ◌^◌}
+use Rattle.std.proofs.Common.{◌≡◌, ℕ, ℤ, pos, zero, suc, append-nil, ◌+◌, ◌-◌, ◌*◌, ◌<◌, ◌≤◌, Bool, false, List, [], ◌∷◌, ◌++◌, length, map, min, take, drop, get_or, reverse, refl, sym, ap, ◌∙◌, arith, add-zero, zero-add, length-append, subst, None, Some, ◌^◌}
 use Rattle.std.specs.Int.{w32}
 use Rattle.std.proofs.lemmas.List.{drop_all, drop_at, length-drop, length-map, length-take, map-append, length-take-le, take_at}
 use Rattle.fx_fixed.specs.Rounding.{rounding}

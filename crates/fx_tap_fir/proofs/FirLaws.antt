@@ -1,7 +1,6 @@
 -- How a `Fir` behaves.
-use Rattle.std.proofs.Common.{ℕ, ℤ, pos, zero, suc, ◌+◌, ◌-◌, ◌<◌, ◌≤◌, ◌≡◌, Bool, true, false, cond, min, List, [], ◌∷◌, ◌++◌, length, drop, get_or, set, reverse, refl, sym, ap, ◌∙◌, arith, zero-add, append_assoc, append-nil}
+use Rattle.std.proofs.Common.{ℕ, ℤ, pos, zero, suc, ◌+◌, ◌-◌, ◌<◌, ◌≤◌, ◌≡◌, Bool, true, false, cond, min, List, [], ◌∷◌, ◌++◌, length, drop, get_or, set, reverse, refl, sym, ap, ◌∙◌, arith, zero-add, append_assoc, append-nil, slice_get, slice_index_or, Option, Some, None, nat_eq, option_to_list}
 use Rattle.std.proofs.lemmas.Bool.{true_from_ne_false}
-use Rattle.std.specs.Prelude.{slice_get, slice_index_or, Option, Some, None, nat_eq, option_to_list}
 use Rattle.std.proofs.Math.Seq.{set-append_seam}
 use Rattle.std.proofs.lemmas.List.{length-append, length-drop, length-map, length-reverse, reverse-reverse, map-append, drop-append-le}
 use Rattle.fx_frame_base.specs.Frame.{Samples}

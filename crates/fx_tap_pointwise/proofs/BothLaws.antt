@@ -1,6 +1,5 @@
 -- Samples that went through two effects, as frames.
-use Rattle.std.proofs.Common.{◌≡◌, ◌*◌, ◌≤◌, ◌∙◌, ℕ, List, [], ◌∷◌, Bool, ◌++◌, length, map, take, ap, refl, sym, arith}
-use Rattle.std.specs.Prelude.{ℤ}
+use Rattle.std.proofs.Common.{◌≡◌, ◌*◌, ◌≤◌, ◌∙◌, ℕ, List, [], ◌∷◌, Bool, ◌++◌, length, map, take, ap, refl, sym, arith, ℤ}
 use Rattle.std.specs.List.{All}
 use Rattle.std.proofs.lemmas.List.{length-append, length-map, length-take-le, take_all}
 use Rattle.fx_frame_base.specs.Frame.{Samples}

@@ -1,6 +1,5 @@
 -- A gain in lowest terms rounds as the gain.
-use Rattle.std.proofs.Common.{ℕ, ℤ, pos, ◌≡◌, ◌*◌, ◌*ℤ◌, ◌^◌, ◌≤◌, ◌∙◌, [], ◌∷◌, ap, arith, sym, zero, suc, to_z, of_z, unsigned_abs, List, get_or}
-use Rattle.std.specs.Prelude.{IfSome, None, Option, Some, sum_by}
+use Rattle.std.proofs.Common.{ℕ, ℤ, pos, ◌≡◌, ◌*◌, ◌*ℤ◌, ◌^◌, ◌≤◌, ◌∙◌, [], ◌∷◌, ap, arith, sym, zero, suc, to_z, of_z, unsigned_abs, List, get_or, IfSome, None, Option, Some, sum_by}
 use Rattle.std.specs.Int.{w32}
 use Rattle.std.proofs.lemmas.List.Sums.{sum_by-cons}
 use Rattle.std.proofs.lemmas.Int.{fits_signed_from_abs, to_z-of_z}

@@ -1,6 +1,5 @@
 -- Channels of which 1000 stands for each that is more.
-use Rattle.std.proofs.Common.{◌≡◌, ◌≤◌, ℕ, ℤ, Bool, true, false, refl, arith, List, take, Option, Some, None, Result, Ok, Err}
-use Rattle.std.specs.Prelude.{nat_lt, option_map}
+use Rattle.std.proofs.Common.{◌≡◌, ◌≤◌, ℕ, ℤ, Bool, true, false, refl, arith, List, take, Option, Some, None, Result, Ok, Err, nat_lt, option_map}
 use Rattle.std.proofs.lemmas.Bool.Decides.{nat_tests}
 use Rattle.fx_plan_words.specs.Capped.{both_capped, capped}
 use Rattle.fx_plan_words.specs.declared.fault.PlanCause.{PlanCause}

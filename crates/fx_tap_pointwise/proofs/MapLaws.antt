@@ -1,6 +1,5 @@
 -- What a stage that maps each frame alone counted, where it froze.
-use Rattle.std.proofs.Common.{ℕ, ◌≡◌, ◌+◌, ◌*◌, ◌≤◌, Option, Some, None, List, length, refl, sym, ap, ◌∙◌}
-use Rattle.std.specs.Prelude.{nat_eq, option_to_list, slice_index_or}
+use Rattle.std.proofs.Common.{ℕ, ◌≡◌, ◌+◌, ◌*◌, ◌≤◌, Option, Some, None, List, length, refl, sym, ap, ◌∙◌, nat_eq, option_to_list, slice_index_or}
 use Rattle.fx_frame_base.specs.Frame.{Samples}
 use Rattle.fx_frame_base.specs.Stage.{Freezes, Given}
 use Rattle.fx_tap_pointwise.specs.Mapped.{IsMapState, MapState, map_acts}

@@ -1,6 +1,5 @@
 -- The contributions of an output channel, added one after the other.
-use Rattle.std.proofs.Common.{ℕ, ℤ, zero, suc, pos, negsuc, ◌+◌, ◌-◌, ◌/◌, ◌<◌, ◌≤◌, ◌≡◌, ◌+ℤ◌, ◌*ℤ◌, Bool, true, false, cond, List, [], ◌∷◌, ◌*◌, length, drop, get_or, map, min, refl, sym, ap, ◌∙◌, arith, add-one, add-zero, zero-add, drop-cons, FitsSigned}
-use Rattle.std.specs.Prelude.{◌^◌, not, slice_index_or, unsigned_abs}
+use Rattle.std.proofs.Common.{ℕ, ℤ, zero, suc, pos, negsuc, ◌+◌, ◌-◌, ◌/◌, ◌<◌, ◌≤◌, ◌≡◌, ◌+ℤ◌, ◌*ℤ◌, Bool, true, false, cond, List, [], ◌∷◌, ◌*◌, length, drop, get_or, map, min, refl, sym, ap, ◌∙◌, arith, add-one, add-zero, zero-add, drop-cons, FitsSigned, ◌^◌, not, slice_index_or, unsigned_abs}
 use Rattle.std.specs.Int.{w32}
 use Rattle.std.proofs.lemmas.Bool.{lt-ltb}
 use mathlib.Core.Path.{ap₂}

@@ -1,6 +1,5 @@
 -- A conversion, concluded from its two halves: what is prepared, and what is finished.
-use Rattle.std.proofs.Common.{◌≡◌, ℕ, List, ◌+◌, [], refl, sym, ap, subst, ◌∙◌, ◌⊎◌, inl, inr, drop}
-use Rattle.std.specs.Prelude.{◌≢◌, true, Option, Result, Ok, Err}
+use Rattle.std.proofs.Common.{◌≡◌, ℕ, List, ◌+◌, [], refl, sym, ap, subst, ◌∙◌, ◌⊎◌, inl, inr, drop, ◌≢◌, true, Option, Result, Ok, Err}
 use Rattle.fx_chain_run.specs.declared.pump.Cause.TheVariants as Causes
 use Rattle.fx_chain_run.specs.declared.report.Report.{Report}
 use Rattle.fx_chain_run.specs.declared.report.RunFault.{RunFault}

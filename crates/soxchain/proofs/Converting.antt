@@ -1,7 +1,6 @@
 -- A conversion, put together from its head and its run.
-use Rattle.std.proofs.Common.{map, ◌⊎◌, inl, inr, ◌≡◌, ℕ, ◌+◌, ◌-◌, ◌*◌, ◌/◌, ◌^◌, ◌<◌, ◌≤◌, List, [], drop, length, sym, ap, arith, ◌∙◌}
+use Rattle.std.proofs.Common.{map, ◌⊎◌, inl, inr, ◌≡◌, ℕ, ◌+◌, ◌-◌, ◌*◌, ◌/◌, ◌^◌, ◌<◌, ◌≤◌, List, [], drop, length, sym, ap, arith, ◌∙◌, false, Option, Some, Result, Ok, Err}
 use Rattle.std.proofs.lemmas.List.{drop-drop}
-use Rattle.std.specs.Prelude.{false, Option, Some, Result, Ok, Err}
 use Rattle.fx_plan.specs.declared.line.LineFault.{LineFault}
 use Rattle.fx_plan.specs.Line.{Said}
 use Rattle.fx_plan.specs.CommandLines.{LineReads}

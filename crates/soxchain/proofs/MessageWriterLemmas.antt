@@ -1,10 +1,9 @@
 -- What stays true while texts go to a writer of messages.
-use Rattle.std.proofs.Common.{◌≡◌, ℕ, zero, suc, refl, ◌<◌, ◌+◌, ◌-◌, ◌≤◌, Bool, true, false, not, List, [], ◌++◌, length, take, drop, sym, ap, ◌∙◌, arith, Option}
+use Rattle.std.proofs.Common.{◌≡◌, ℕ, zero, suc, refl, ◌<◌, ◌+◌, ◌-◌, ◌≤◌, Bool, true, false, not, List, [], ◌++◌, length, take, drop, sym, ap, ◌∙◌, arith, Option, MatchBool, codes, decimal, slice_index_or}
 use Rattle.std.proofs.lemmas.List.{append_assoc, length-drop, length-append, take-append-le, take_all}
 use Rattle.std.proofs.Math.Seq.{take-add, take-append-add}
 use Rattle.std.proofs.KnownBytes.{Appends-nil, Appends-trans}
 use Rattle.std.specs.Io.KnownBytes.{Appends}
-use Rattle.std.specs.Prelude.{MatchBool, codes, decimal, slice_index_or}
 use Rattle.fx_frame_base.specs.Io.{ByteWriter}
 use Rattle.fx_plan_words.specs.Faults.{Word}
 use Rattle.soxchain.specs.Messages.{effect_warning, effect_warnings, line_feed, reported_word, warning}

@@ -1,6 +1,5 @@
 -- The first of the pieces that lie in bytes, found one after the other.
-use Rattle.std.proofs.Common.{ℕ, suc, ◌≤◌, List, ◌∷◌, length, arith}
-use Rattle.std.specs.Prelude.{slice_range}
+use Rattle.std.proofs.Common.{ℕ, suc, ◌≤◌, List, ◌∷◌, length, arith, slice_range}
 use Rattle.std.specs.Str.{IsUtf8}
 use Rattle.soxchain_c.specs.Texts.{FindsEnds, FindsTexts}
 

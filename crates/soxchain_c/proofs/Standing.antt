@@ -1,7 +1,6 @@
 -- The frames that a run reports were there.
-use Rattle.std.proofs.Common.{◌≡◌, ℕ, ◌+◌, ◌*◌, ◌/◌, ◌%◌, ◌≤◌, Bool, true, false, cond, List, [], ◌∷◌, length, Option, ap, arith}
+use Rattle.std.proofs.Common.{◌≡◌, ℕ, ◌+◌, ◌*◌, ◌/◌, ◌%◌, ◌≤◌, Bool, true, false, cond, List, [], ◌∷◌, length, Option, ap, arith, ℤ, MatchBool, Result, Ok, Err}
 use Rattle.std.proofs.Math.Nat.{div-add-mod', mul-le-mul_right}
-use Rattle.std.specs.Prelude.{ℤ, MatchBool, Result, Ok, Err}
 use Rattle.fx_chain.specs.Theorem.{Ran, frames_read, kinds_of, sound_in, strays, until_enough}
 use Rattle.fx_chain.proofs.Stating.{sound-count}
 use Rattle.fx_chain_flow.specs.Composed.{enough_for}

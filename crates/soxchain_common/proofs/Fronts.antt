@@ -1,6 +1,5 @@
 -- What is read up to a limit.
-use Rattle.std.proofs.Common.{◌≡◌, ◌<◌, ◌≤◌, ◌+◌, ℕ, List, [], ◌∷◌, ◌++◌, ◌∙◌, ap, append-nil, arith, false, length, map, nat_lt, slice_get, slice_index_or, inl, inr, sym, zero, suc, Bor, refl}
-use Rattle.std.specs.Prelude.{◌^◌, Option, Some, None, IfOk, IfSome, take, Result, Ok, Err, IfErr}
+use Rattle.std.proofs.Common.{◌≡◌, ◌<◌, ◌≤◌, ◌+◌, ℕ, List, [], ◌∷◌, ◌++◌, ◌∙◌, ap, append-nil, arith, false, length, map, nat_lt, slice_get, slice_index_or, inl, inr, sym, zero, suc, Bor, refl, ◌^◌, Option, Some, None, IfOk, IfSome, take, Result, Ok, Err, IfErr}
 use Rattle.std.specs.Io.KnownBytes.{Consumes, IsAtEnd}
 use Rattle.std.proofs.lemmas.Bool.{cases_lt, lt-ltb}
 use Rattle.std.proofs.lemmas.List.{length-append, length-take, take_all, take_more}

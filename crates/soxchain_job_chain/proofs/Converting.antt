@@ -1,6 +1,5 @@
 -- What the calls of a conversion write together.
-use Rattle.std.proofs.Common.{◌≡◌, ℕ, ◌+◌, ◌-◌, ◌*◌, ◌/◌, ◌<◌, ◌≤◌, Bool, inl, inr, true, false, List, [], ◌++◌, drop, length, refl, subst, sym, ap, ◌∙◌, arith, Some, None}
-use Rattle.std.specs.Prelude.{ℤ, ◌⊎◌, if◌then◌else◌, Option, take}
+use Rattle.std.proofs.Common.{◌≡◌, ℕ, ◌+◌, ◌-◌, ◌*◌, ◌/◌, ◌<◌, ◌≤◌, Bool, inl, inr, true, false, List, [], ◌++◌, drop, length, refl, subst, sym, ap, ◌∙◌, arith, Some, None, ℤ, ◌⊎◌, if◌then◌else◌, Option, take}
 use Rattle.std.proofs.Math.Seq.{drop-nil, take-nil}
 use Rattle.std.proofs.lemmas.List.{append_assoc, append-nil, length-append, length-drop}
 use Rattle.std.proofs.lemmas.Nat.{div_below}

@@ -1,6 +1,5 @@
 -- The bytes of a frozen conversion in two parts.
-use Rattle.std.proofs.Common.{◌≡◌, ◌∙◌, ◌*◌, List, ℕ, Some, None, length, flat_map, ap, refl, subst, sym, take, drop}
-use Rattle.std.specs.Prelude.{Option}
+use Rattle.std.proofs.Common.{◌≡◌, ◌∙◌, ◌*◌, List, ℕ, Some, None, length, flat_map, ap, refl, subst, sym, take, drop, Option}
 use Rattle.std.proofs.lemmas.List.{drop_at, take_at}
 use Rattle.soxchain_job_chain.specs.FrozenConversion.{FollowsCounts, IsFrozenConversion, count_words, counts_of}
 use Rattle.soxchain_job_chain.specs.JobOutput.{ConversionParts}

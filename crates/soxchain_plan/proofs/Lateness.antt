@@ -1,7 +1,6 @@
 -- After just so many frames as the line of an effect with positions holds nothing is due.
-use Rattle.std.proofs.Common.{◌≡◌, ◌∙◌, ◌+◌, ◌-◌, ℕ, zero, suc, List, Option, Some, None, ap, arith, filter, map, refl, sum_by, zero-add}
+use Rattle.std.proofs.Common.{◌≡◌, ◌∙◌, ◌+◌, ◌-◌, ℕ, zero, suc, List, Option, Some, None, ap, arith, filter, map, refl, sum_by, zero-add, count_by, nat_lt}
 use Rattle.fx_cut.proofs.PadThaw.{no-pads}
-use Rattle.std.specs.Prelude.{count_by, nat_lt}
 use Rattle.std.specs.List.{range_with_len}
 use Rattle.fx_fixed.specs.Extents.{end_distance, largest}
 use Rattle.fx_cut.specs.PadExtents.{pad_distance}

@@ -1,7 +1,6 @@
 -- The beginnings of words that are refused for an option.
-use Rattle.std.proofs.Common.{◌≡◌, ◌≢◌, ◌≤◌, ◌<◌, ◌+◌, ◌⊎◌, inl, inr, ℕ, List, Err, length, take, sym, arith, subst}
+use Rattle.std.proofs.Common.{◌≡◌, ◌≢◌, ◌≤◌, ◌<◌, ◌+◌, ◌⊎◌, inl, inr, ℕ, List, Err, length, take, sym, arith, subst, String, string_bytes}
 use Rattle.std.proofs.Math.Nat.{eq-or-lt_of_le}
-use Rattle.std.specs.Prelude.{String, string_bytes}
 use Rattle.std.proofs.lemmas.List.{length-map, take-map}
 use Rattle.fx_plan.specs.declared.line.LineFault.TheVariants.{BadOption}
 use Rattle.fx_plan.specs.Line.{line_of_words, texts}

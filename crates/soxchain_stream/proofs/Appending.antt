@@ -1,11 +1,10 @@
 -- What is appended in several steps.
-use Rattle.std.proofs.Common.{◌≡◌, ℕ, ◌+◌, ◌*◌, List, [], ◌∷◌, ◌++◌, length, flat_map, refl, sym, ap, ◌∙◌, append_assoc, arith}
+use Rattle.std.proofs.Common.{◌≡◌, ℕ, ◌+◌, ◌*◌, List, [], ◌∷◌, ◌++◌, length, flat_map, refl, sym, ap, ◌∙◌, append_assoc, arith, Bool, true, false, Option, Some, None, cond, is_some, option_to_list}
 use Rattle.std.proofs.lemmas.Grind.{flat_map-append}
 use Rattle.std.proofs.lemmas.List.{append-nil, length-append}
 use Rattle.std.proofs.lemmas.List.Elements.{All-append}
 use Rattle.std.specs.List.{All}
 use Rattle.std.specs.Int.{from_bool}
-use Rattle.std.specs.Prelude.{Bool, true, false, Option, Some, None, cond, is_some, option_to_list}
 use Rattle.fx_chain_flow.specs.Frozen.{inlet_numbers, numbers_all, stored_all}
 use Rattle.fx_chain_flow.proofs.Thawing.{length-numbers}
 use Rattle.fx_chain_flow.specs.Parts.{Parts}

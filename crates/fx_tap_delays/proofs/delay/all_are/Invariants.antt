@@ -1,5 +1,4 @@
-use Rattle.std.proofs.Common.{ℕ, ◌≡◌, ◌<◌}
-use Rattle.std.specs.Prelude.{slice_index}
+use Rattle.std.proofs.Common.{ℕ, ◌≡◌, ◌<◌, slice_index}
 use Rattle.fx_tap_delays.proofs.delay.all_are.Given as goal
 
 abbrev pub invariant-delays : goal.invariant-delays

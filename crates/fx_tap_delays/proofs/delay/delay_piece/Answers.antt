@@ -1,7 +1,6 @@
 -- One channel more is delayed, or stands as it came.
-use Rattle.std.proofs.Common.{ap, pos, get_or, ◌*◌, ◌≡◌, ◌+◌, ◌<◌, ◌≤◌, ◌++◌, ℕ, ℤ, List, length, refl, sym, ◌∙◌, arith}
+use Rattle.std.proofs.Common.{ap, pos, get_or, ◌*◌, ◌≡◌, ◌+◌, ◌<◌, ◌≤◌, ◌++◌, ℕ, ℤ, List, length, refl, sym, ◌∙◌, arith, slice_index}
 use Rattle.fx_frame_base.proofs.ChannelPlaces.{other-channel}
-use Rattle.std.specs.Prelude.{slice_index}
 use Rattle.fx_frame_base.specs.Frame.{Samples}
 use Rattle.fx_frame_base.specs.Lists.{pieces}
 use Rattle.fx_frame_base.proofs.Pieces.{length-pieces}

@@ -1,5 +1,4 @@
-use Rattle.std.proofs.Common.{◌≡◌, ◌<◌, ◌≤◌, ◌+◌, ◌*◌, ◌++◌, ℕ, pos, length, slice_index_or}
-use Rattle.std.specs.Prelude.{slice_index}
+use Rattle.std.proofs.Common.{◌≡◌, ◌<◌, ◌≤◌, ◌+◌, ◌*◌, ◌++◌, ℕ, pos, length, slice_index_or, slice_index}
 use Rattle.fx_frame_base.specs.Lists.{pieces}
 use Rattle.fx_frame.specs.History.{sample_before}
 use Rattle.fx_tap_delays.proofs.delay.delay_piece.Given as goal

@@ -1,5 +1,4 @@
-use Rattle.std.proofs.Common.{◌≡◌, ◌<◌, ◌++◌, ◌∷◌, [], ℕ, ℤ, length, rules, to_z, of_z, w32, ap, sym, ◌∙◌, zero-add, ◌+◌}
-use Rattle.std.specs.Prelude.{slice_index}
+use Rattle.std.proofs.Common.{◌≡◌, ◌<◌, ◌++◌, ◌∷◌, [], ℕ, ℤ, length, rules, to_z, of_z, w32, ap, sym, ◌∙◌, zero-add, ◌+◌, slice_index}
 use Rattle.std.proofs.lemmas.List.{take_more_set}
 use Rattle.fx_frame_base.specs.Lists.{tabulate}
 use Rattle.fx_frame_base.proofs.Tabulate.{tabulate-append}

@@ -1,5 +1,4 @@
-use Rattle.std.proofs.Common.{◌≡◌, take}
-use Rattle.std.specs.Prelude.{slice_index}
+use Rattle.std.proofs.Common.{◌≡◌, take, slice_index}
 use Rattle.fx_frame_base.specs.Lists.{tabulate}
 use Rattle.fx_tap_delays.specs.Tapping.{history_after}
 use Rattle.fx_tap_delays.proofs.delay.delayed_into.Given as goal

@@ -1,5 +1,4 @@
-use Rattle.std.proofs.Common.{◌<◌, ◌+◌, ◌-◌, ◌≤◌, ◌++◌, drop, length, arith, sym, ap, ◌∙◌}
-use Rattle.std.specs.Prelude.{slice_get}
+use Rattle.std.proofs.Common.{◌<◌, ◌+◌, ◌-◌, ◌≤◌, ◌++◌, drop, length, arith, sym, ap, ◌∙◌, slice_get}
 use Rattle.std.proofs.lemmas.List.{drop_more}
 use Rattle.fx_tap_delays.specs.EchosState.{frames_of_lines}
 use Rattle.fx_tap_delays.proofs.EchosSeries.{get-left, get-right}

@@ -1,5 +1,4 @@
-use Rattle.std.proofs.Common.{◌≡◌, drop}
-use Rattle.std.specs.Prelude.{slice_get}
+use Rattle.std.proofs.Common.{◌≡◌, drop, slice_get}
 use Rattle.fx_tap_delays.specs.EchosState.{frames_of_lines}
 use Rattle.fx_tap_delays.proofs.echos.stored_in.Given as goal
 

@@ -1,6 +1,5 @@
-use Rattle.std.proofs.Common.{rules, arith, ◌≡◌, ◌+◌, ◌<◌, ◌∙◌, FitsSigned, ap, refl, cond, get_or, length, ℕ, Bool, to_z, of_z, List}
+use Rattle.std.proofs.Common.{rules, arith, ◌≡◌, ◌+◌, ◌<◌, ◌∙◌, FitsSigned, ap, refl, cond, get_or, length, ℕ, Bool, to_z, of_z, List, ℤ, pos}
 use Rattle.std.proofs.lemmas.Grind.{common_steps}
-use Rattle.std.specs.Prelude.{ℤ, pos}
 use Rattle.std.specs.Int.{w32}
 use Rattle.std.proofs.lemmas.List.Elements.{All-more}
 use Rattle.fx_fixed.specs.Rounding.{clip_count}

@@ -1,5 +1,4 @@
-use Rattle.std.proofs.Common.{rules, arith, ◌≡◌, ◌<◌, ◌+◌, ◌∙◌, ap, refl, cond, sym, get_or, drop, length, ℕ, Bool, to_z, of_z, List, ◌∷◌}
-use Rattle.std.specs.Prelude.{ℤ, pos}
+use Rattle.std.proofs.Common.{rules, arith, ◌≡◌, ◌<◌, ◌+◌, ◌∙◌, ap, refl, cond, sym, get_or, drop, length, ℕ, Bool, to_z, of_z, List, ◌∷◌, ℤ, pos}
 use Rattle.std.specs.Int.{w32}
 use Rattle.std.proofs.lemmas.List.{drop-set-lt, drop_more}
 use Rattle.fx_fixed.specs.Rounding.{clip_count}

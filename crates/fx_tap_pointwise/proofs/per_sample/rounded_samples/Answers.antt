@@ -1,5 +1,4 @@
-use Rattle.std.proofs.Common.{rules, arith, ◌≡◌, ◌<◌, ◌+◌, ◌∙◌, ap, refl, cond, get_or, length, ℕ, Bool, to_z, of_z, List}
-use Rattle.std.specs.Prelude.{ℤ, pos}
+use Rattle.std.proofs.Common.{rules, arith, ◌≡◌, ◌<◌, ◌+◌, ◌∙◌, ap, refl, cond, get_or, length, ℕ, Bool, to_z, of_z, List, ℤ, pos}
 use Rattle.std.specs.Int.{w32}
 use Rattle.fx_fixed.specs.Rounding.{clip_count}
 use Rattle.fx_frame_base.proofs.Rounds.{samples_of-more, clips_of-more, byte_is, byte-le}

@@ -1,5 +1,4 @@
-use Rattle.std.proofs.Common.{refl}
-use Rattle.std.specs.Prelude.{Ok, Err}
+use Rattle.std.proofs.Common.{refl, Ok, Err}
 use Rattle.fx_chain_run.specs.Report.{cause_of}
 use Rattle.soxchain.proofs.Converting.{HasCause-map, ReadFirst-new, SourceStands-run, wants-new}
 use Rattle.soxchain.proofs.ready.finish_for.Goals as goal

@@ -1,6 +1,5 @@
-use Rattle.std.proofs.Common.{◌∷◌, arith}
+use Rattle.std.proofs.Common.{◌∷◌, arith, slice_range}
 use Rattle.std.proofs.lemmas.Grind.{common_steps}
-use Rattle.std.specs.Prelude.{slice_range}
 use Rattle.std.specs.Str.{IsUtf8}
 use Rattle.soxchain_c.specs.Texts.{FindsTexts}
 use Rattle.soxchain_c.proofs.FirstPieces.{texts-next}

@@ -1,5 +1,4 @@
-use Rattle.std.proofs.Common.{rules, ◌≡◌, true, Ok, Err}
-use Rattle.std.specs.Prelude.{IfOk, MatchResult, Result, is_ok}
+use Rattle.std.proofs.Common.{rules, ◌≡◌, true, Ok, Err, IfOk, MatchResult, Result, is_ok}
 use Rattle.soxchain_cli.specs.Named.{Cut}
 use Rattle.soxchain_cli.proofs.files.write_over.Goals as goal
 

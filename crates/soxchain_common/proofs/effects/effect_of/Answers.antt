@@ -1,5 +1,4 @@
-use Rattle.std.proofs.Common.{◌≡◌, ◌∙◌, ap, cond, refl, sym, Bool, true, false, Bor}
-use Rattle.std.specs.Prelude.{Option, Some, None, is_some, option_copied}
+use Rattle.std.proofs.Common.{◌≡◌, ◌∙◌, ap, cond, refl, sym, Bool, true, false, Bor, Option, Some, None, is_some, option_copied}
 use Rattle.fx_plan.specs.declared.registry.Name.{Name}
 use Rattle.fx_plan.specs.declared.registry.Name.TheVariants.{WholeSound, LeftOut, Other}
 use Rattle.fx_plan.specs.Names.{name_of}

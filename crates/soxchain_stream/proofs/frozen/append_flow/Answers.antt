@@ -1,6 +1,5 @@
-use Rattle.std.proofs.Common.{◌≡◌, ◌∙◌, ◌+◌, ◌-◌, ◌*◌, ◌∷◌, [], ℕ, List, ap, arith, length, subst}
+use Rattle.std.proofs.Common.{◌≡◌, ◌∙◌, ◌+◌, ◌-◌, ◌*◌, ◌∷◌, [], ℕ, List, ap, arith, length, subst, Option, cond, option_to_list}
 use Rattle.std.specs.Int.{from_bool}
-use Rattle.std.specs.Prelude.{Option, cond, option_to_list}
 use Rattle.fx_chain_flow.specs.Frozen.{inlet_numbers, numbers_all, stored_all}
 use Rattle.fx_frame_base.specs.Frame.{Samples}
 use Rattle.soxchain_stream.specs.Appended.{AppendsFrames, AppendsWords}

@@ -1,6 +1,5 @@
-use Rattle.std.proofs.Common.{◌≡◌, ◌∙◌, ◌+◌, ◌<◌, ◌≤◌, ℕ, List, [], ◌∷◌, ◌++◌, ap, append_assoc, drop, length, refl, rules, subst, sym}
+use Rattle.std.proofs.Common.{◌≡◌, ◌∙◌, ◌+◌, ◌<◌, ◌≤◌, ℕ, List, [], ◌∷◌, ◌++◌, ap, append_assoc, drop, length, refl, rules, subst, sym, slice_index_or}
 use Rattle.std.proofs.lemmas.List.{append-nil, drop_all}
-use Rattle.std.specs.Prelude.{slice_index_or}
 use Rattle.fx_chain_flow.specs.Frozen.{stored_all}
 use Rattle.fx_chain_flow.proofs.Thawing.{drop-next}
 use Rattle.fx_frame_base.specs.Frame.{Samples}

@@ -1,6 +1,5 @@
-use Rattle.std.proofs.Common.{arith, sym, ◌∙◌}
+use Rattle.std.proofs.Common.{arith, sym, ◌∙◌, string_bytes}
 use Rattle.std.proofs.lemmas.Grind.{common_steps}
-use Rattle.std.specs.Prelude.{string_bytes}
 use Rattle.fx_plan_words.specs.Faults.{word_texts}
 use Rattle.fx_tap_delays.proofs.EchoWords.{tap_faults-step}
 use Rattle.fx_tap_delays.proofs.echo.words.read_taps.Goals as goal

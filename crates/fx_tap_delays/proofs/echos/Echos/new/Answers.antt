@@ -1,5 +1,4 @@
-use Rattle.std.proofs.Common.{refl, arith, ◌≤◌}
-use Rattle.std.specs.Prelude.{pos}
+use Rattle.std.proofs.Common.{refl, arith, ◌≤◌, pos}
 use Rattle.std.proofs.lemmas.List.Elements.{All-get_or}
 use Rattle.fx_tap_delays.specs.Echo.{EchoArguments, IsEcho, echo_with}
 use Rattle.fx_tap_delays.proofs.EchoWeights.{suits-of}

@@ -1,5 +1,4 @@
-use Rattle.std.proofs.Common.{◌≡◌, ◌+◌, ◌≤◌, ◌<◌, ◌^◌, ◌∙◌, ap, ℕ, false, length, refl, arith}
-use Rattle.std.specs.Prelude.{None}
+use Rattle.std.proofs.Common.{◌≡◌, ◌+◌, ◌≤◌, ◌<◌, ◌^◌, ◌∙◌, ap, ℕ, false, length, refl, arith, None}
 use Rattle.fx_frame_base.specs.Frame.{Samples}
 use Rattle.fx_tap_delays.specs.EchosState.{EchosState, IsEchos, IsEchoLine, came_of, delay_at, line_at}
 use Rattle.fx_frame.proofs.DryLaws.{dry-pending}

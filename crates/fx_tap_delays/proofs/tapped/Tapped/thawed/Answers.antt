@@ -1,5 +1,4 @@
-use Rattle.std.proofs.Common.{rules, refl, sym, ap, ◌∙◌, ◌≡◌, ◌≤◌, ◌+◌, true, min, length, length-append, arith, slice_index_or}
-use Rattle.std.specs.Prelude.{option_to_list}
+use Rattle.std.proofs.Common.{rules, refl, sym, ap, ◌∙◌, ◌≡◌, ◌≤◌, ◌+◌, true, min, length, length-append, arith, slice_index_or, option_to_list}
 use Rattle.std.proofs.lemmas.Bool.Decides.{nat_tests}
 use Rattle.fx_frame.specs.Tapped.{AreTapCounts, by_name}
 use Rattle.fx_frame.proofs.Counts.{eight-numbers, flag-back, flag-of, times-flag}

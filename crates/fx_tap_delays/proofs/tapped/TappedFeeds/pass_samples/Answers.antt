@@ -1,5 +1,4 @@
-use Rattle.std.proofs.Common.{◌≡◌, ◌+◌, ◌*◌, ◌≤◌, ◌∙◌, ◌^◌, [], ◌∷◌, false, refl, arith}
-use Rattle.std.specs.Prelude.{None}
+use Rattle.std.proofs.Common.{◌≡◌, ◌+◌, ◌*◌, ◌≤◌, ◌∙◌, ◌^◌, [], ◌∷◌, false, refl, arith, None}
 use Rattle.fx_frame.proofs.TapBlocks.{IsTapState-block, frame-passed}
 use Rattle.fx_frame.proofs.DryLaws.{dry-pending}
 use Rattle.fx_tap_delays.proofs.tapped.TappedFeeds.pass_samples.Goals as goal

@@ -1,5 +1,4 @@
-use Rattle.std.proofs.Common.{rules, ◌≡◌, ◌+◌, ◌-◌, ◌≤◌, true, inl, inr, ap, ◌∙◌, arith, length, length-append, slice_index_or}
-use Rattle.std.specs.Prelude.{option_to_list}
+use Rattle.std.proofs.Common.{rules, ◌≡◌, ◌+◌, ◌-◌, ◌≤◌, true, inl, inr, ap, ◌∙◌, arith, length, length-append, slice_index_or, option_to_list}
 use Rattle.std.proofs.lemmas.Bool.Decides.{nat_tests}
 use Rattle.std.proofs.lemmas.List.{length-reverse}
 use Rattle.fx_tap_fir.specs.Fir.{centre}

@@ -1,5 +1,4 @@
-use Rattle.std.proofs.Common.{rules, ◌≡◌, ◌+◌, ◌-◌, ◌*◌, ◌≤◌, ◌^◌, ◌++◌, ◌∙◌, ap, ℕ, ℤ, List, false, length, length-append, min, refl, reverse, arith}
-use Rattle.std.specs.Prelude.{None}
+use Rattle.std.proofs.Common.{rules, ◌≡◌, ◌+◌, ◌-◌, ◌*◌, ◌≤◌, ◌^◌, ◌++◌, ◌∙◌, ap, ℕ, ℤ, List, false, length, length-append, min, refl, reverse, arith, None}
 use Rattle.std.specs.Int.{w32}
 use Rattle.std.proofs.lemmas.List.{length-reverse}
 use Rattle.fx_frame_base.specs.Frame.{Samples}

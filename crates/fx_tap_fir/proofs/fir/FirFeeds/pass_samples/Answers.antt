@@ -1,6 +1,5 @@
-use Rattle.std.proofs.Common.{◌≡◌, ◌+◌, ◌≤◌, ◌∙◌, List, ℤ, false, length, refl, reverse, arith}
+use Rattle.std.proofs.Common.{◌≡◌, ◌+◌, ◌≤◌, ◌∙◌, List, ℤ, false, length, refl, reverse, arith, None}
 use Rattle.std.proofs.lemmas.Grind.{common_steps}
-use Rattle.std.specs.Prelude.{None}
 use Rattle.std.proofs.lemmas.List.{length-reverse, take_all}
 use Rattle.fx_tap_fir.specs.Fir.{centre}
 use Rattle.fx_frame.proofs.DryLaws.{dry-pending}

@@ -1,5 +1,4 @@
-use Rattle.std.proofs.Common.{rules, ◌≡◌, ◌+◌, ◌-◌, ◌≤◌, ◌^◌, ◌∙◌, ap, List, ℤ, ℕ, length, drop, arith, to_z, of_z, w64}
-use Rattle.std.specs.Prelude.{sum_by, unsigned_abs}
+use Rattle.std.proofs.Common.{rules, ◌≡◌, ◌+◌, ◌-◌, ◌≤◌, ◌^◌, ◌∙◌, ap, List, ℤ, ℕ, length, drop, arith, to_z, of_z, w64, sum_by, unsigned_abs}
 use Rattle.fx_fixed.specs.Rounding.{rounding}
 use Rattle.fx_tap_sums.specs.Products.{sum_of_products}
 use Rattle.fx_tap_sums.proofs.KernelLaws.{part-bound, sum_of_products-take}

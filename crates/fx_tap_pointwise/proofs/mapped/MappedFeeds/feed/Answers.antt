@@ -1,5 +1,4 @@
-use Rattle.std.proofs.Common.{rules, ◌≡◌, ◌+◌, ◌-◌, ◌*◌, ◌≤◌, false, length, refl, arith, ◌<◌}
-use Rattle.std.specs.Prelude.{None}
+use Rattle.std.proofs.Common.{rules, ◌≡◌, ◌+◌, ◌-◌, ◌*◌, ◌≤◌, false, length, refl, arith, ◌<◌, None}
 use Rattle.fx_frame.specs.Kinds.{max_taken}
 use Rattle.fx_tap_pointwise.proofs.Blocks.{block-fed}
 use Rattle.fx_frame_base.proofs.Flags.{none-of}

@@ -1,5 +1,4 @@
-use Rattle.std.proofs.Common.{rules, ◌≡◌, ◌++◌, ◌∙◌, false, drop, length, take, refl, sym, ap, arith}
-use Rattle.std.specs.Prelude.{None}
+use Rattle.std.proofs.Common.{rules, ◌≡◌, ◌++◌, ◌∙◌, false, drop, length, take, refl, sym, ap, arith, None}
 use Rattle.std.proofs.lemmas.List.{length-take-le, take_at}
 use Rattle.fx_tap_pointwise.proofs.Blocks.{frame-passed, none-is}
 use Rattle.fx_tap_pointwise.proofs.mapped.MappedFeeds.pass_places.Goals as goal

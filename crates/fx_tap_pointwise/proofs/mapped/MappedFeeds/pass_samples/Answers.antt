@@ -1,5 +1,4 @@
-use Rattle.std.proofs.Common.{◌≡◌, false, length, refl, sym, ap, ◌∙◌, arith}
-use Rattle.std.specs.Prelude.{None}
+use Rattle.std.proofs.Common.{◌≡◌, false, length, refl, sym, ap, ◌∙◌, arith, None}
 use Rattle.fx_tap_pointwise.proofs.Blocks.{frame-passed, none-is}
 use Rattle.fx_tap_pointwise.proofs.mapped.MappedFeeds.pass_samples.Goals as goal
 

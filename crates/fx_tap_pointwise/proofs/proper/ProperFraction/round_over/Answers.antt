@@ -1,5 +1,4 @@
-use Rattle.std.proofs.Common.{rules, arith, ◌≡◌, ◌<◌, ◌+◌, ◌∙◌, ap, sym, get_or, drop, length, ℕ, Bool, false, to_z, of_z, List, ◌∷◌}
-use Rattle.std.specs.Prelude.{ℤ, pos}
+use Rattle.std.proofs.Common.{rules, arith, ◌≡◌, ◌<◌, ◌+◌, ◌∙◌, ap, sym, get_or, drop, length, ℕ, Bool, false, to_z, of_z, List, ◌∷◌, ℤ, pos}
 use Rattle.std.specs.Int.{w32, w64}
 use Rattle.std.proofs.lemmas.List.{drop-set-lt, drop_more}
 use Rattle.fx_frame_base.proofs.Rounds.{samples_of-more, clips_of-more}
