@@ -384,12 +384,6 @@ module _ {S R : Type 0} (acts : Acts S R) (first : Parts S) (input start : List 
       let maximum : work (kinds acts f'.stages) (taken_of f') ≤ work (kinds acts first.stages) max_frames = rw stays (work-rises acts rises (recipes acts first.stages) (taken_of f') max_frames bound) in
       omega (arith, steps.steps, steps.within, same, maximum)
 
-  pub smaller-take : (f f' : Parts S) (x : Samples) (read : ℕ) → f' ≡ record f { inlet = Some x } → 1 ≤ first.channels → read + first.channels ≤ length input → left_to_do f' (read + first.channels) < left_to_do f read
-  smaller-take f f' x read took some free =
-      let stages : f'.stages ≡ f.stages = ap (λ (h : Parts S). h.stages) took in
-      let left : f'.left ≡ f.left = ap (λ (h : Parts S). h.left) took in
-      rw (stages, left) (omega arith)
-
   -- frames that went through the stages left less to be done
   pub smaller-run : (f f' : Parts S) (read n : ℕ) → moves_of acts f + ended_of acts f.stages ≤ moves_of acts f' + ended_of acts f'.stages → 1 ≤ first.channels → 1 ≤ n → n * first.channels ≤ length input - read → read ≤ length input → left_to_do f' (read + n * first.channels) < left_to_do f read
   smaller-run f f' read n moves some one free within = let h : n ≤ n * first.channels = le-times n first.channels some in omega (arith, moves)

@@ -1,9 +1,7 @@
 -- A frame that goes through stages in a row, one after another.
 use Rattle.std.proofs.Common.{ℕ, zero, suc, ◌+◌, ◌<◌, ◌≤◌, true, false, List, [], ◌∷◌, ◌≡◌, length, drop, get_or, refl, sym, ap, ◌∙◌, subst, arith, inl, inr, Bool, ◌||◌, ◌&&◌, Some, None}
 use Rattle.std.proofs.Math.ListN.{set}
-use Rattle.fx_frame_base.specs.declared.feed.Passing.{Passing}
-use Rattle.fx_frame_base.specs.declared.feed.Passing.TheVariants.{Kept, Through, More}
-use Rattle.fx_frame_base.specs.Feed.{GaveNext, IsHeld, PassedOn, TookNext}
+use Rattle.fx_frame_base.specs.Feed.{GaveNext, IsHeld, TookNext}
 use Rattle.fx_frame_base.specs.Frame.{Samples}
 use Rattle.fx_frame_base.specs.Holds.{held_sum, hold_sum, kinds}
 use Rattle.fx_frame_base.specs.Stage.{Acts, Counts, IsLined, kind, spent}
@@ -125,12 +123,6 @@ module _ {S R : Type 0} (acts : Acts S R) where
   WentThrough-out (suc i) first frame (s ∷ stages) (t ∷ stages') n came = inr (came.0, came.1, came.2, came.3, WentThrough-out i came.1 frame stages stages' (omega arith) came.4)
   WentThrough-out (suc i) first frame [] new n came = absurd came
   WentThrough-out (suc i) first frame (s ∷ stages) [] n came = absurd came
-
-  -- a stage that did not keep a frame gave one for it
-  pub PassedOn-gave : (r : Passing) (s s' : S) (x y : Samples) → (r ≡ Kept → ⊥) → PassedOn acts r s s' x y → (mid : S) × TookNext acts s mid x × GaveNext acts mid s' y
-  PassedOn-gave Kept s s' x y n p = absurd (n refl)
-  PassedOn-gave Through s s' x y n p = (p.0, p.1, p.2)
-  PassedOn-gave More s s' x y n p = (p.0, p.1, p.2)
 
   -- stages in a row that are dry, of which none was told the end or is spent, may be passed a frame
   pub AreReady-from : (channels taken maximum : ℕ) (over : Bool) (stages : List S) → over ≡ false → AllDry acts stages → any_spent acts stages ≡ false → Matching channels (kinds acts stages) → Within (kinds acts stages) maximum → Joined acts taken over stages

@@ -3,7 +3,7 @@ use Rattle.std.proofs.Common.{ℕ, zero, suc, add-one, ◌+◌, ◌-◌, ◌*◌
 use Rattle.std.specs.Prelude.{ℤ, FitsSigned, if◌then◌else◌, ◌⊎◌}
 use Rattle.std.specs.Int.{w32}
 use Rattle.std.specs.List.{All}
-use Rattle.std.proofs.lemmas.List.{append-nil, append_assoc, drop-drop, drop-take, drop_all, length-append, length-drop, length-take-le, take-take, take_all, take_at}
+use Rattle.std.proofs.lemmas.List.{append-nil, append_assoc, drop-drop, drop-take, drop_all, length-append, length-drop, length-take-le, take-take, take_at}
 use Rattle.std.proofs.lemmas.List.Elements.{All-drop, All-take}
 use Rattle.std.proofs.Math.Nat.{div-mul-le_self, mul-le-mul_right, suc-mul}
 use Rattle.fx_frame_base.specs.Feed.{GaveNext, TookNext}
@@ -189,9 +189,6 @@ module _ {S R : Type 0} (acts : Acts S R) where
       (all.0, all.1, determined-kept i came.1 frame stages stages' s' (omega arith) came.4 before.2 all.2 dry is)
   determined-kept (suc i) first frame [] new s' h came before all dry is = absurd came
   determined-kept (suc i) first frame (s ∷ stages) [] s' h came before all dry is = absurd came
-
-  pub determined-all : (i : ℕ) (new : List S) → length new ≤ i → AllDetermined acts (take i new) → AllDetermined acts new
-  determined-all i new h all = rw (take_all i new h) at all
 
   -- where before each frame no more is due than one for each that came, and all of them have room
   pub FlowCapacity-each : (channels left : ℕ) (stages : List S) (count free : ℕ) → GivesOneEach acts stages left count → count * outputs_of channels (kinds acts stages) ≤ free → FlowTookWithinSpace acts (flow_of acts channels stages left) count free

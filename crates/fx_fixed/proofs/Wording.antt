@@ -13,9 +13,6 @@ use Rattle.fx_fixed.proofs.Parting.{before_first-no, before_first-yes, before_ru
 
 -- ---- the kinds of bytes
 
-feed_is_white : (c : ℕ) → is_feed c ≡ true → is_white c ≡ true
-feed_is_white c feed = grind (arith, nat_tests)
-
 no_break : (c : ℕ) → is_break c ≡ false → (is_white c ≡ false) × (is_hash c ≡ false) × (is_feed c ≡ false)
 no_break c plain = (grind (arith, nat_tests), grind (arith, nat_tests), grind (arith, nat_tests))
 

@@ -4,7 +4,7 @@ use Rattle.std.specs.Option.{option_map}
 use Rattle.std.specs.List.{All}
 use Rattle.std.proofs.lemmas.List.Elements.{All-head, All-push, All-drop}
 use Rattle.std.proofs.lemmas.Option.{same_Some, slice_get-get_or}
-use Rattle.fx_frame_line.specs.Line.{Frames, pushed, pushed_out, IsLineOf, from_newest}
+use Rattle.fx_frame_line.specs.Line.{Frames, pushed, pushed_out, from_newest}
 use Rattle.std.proofs.lemmas.List.{get_or_past}
 use Rattle.fx_frame_line.specs.Ring.{IsShaped}
 
@@ -61,7 +61,3 @@ module _ {X : Type 0} where
       go true items all is = absurd (cc (is))
       go false [] all is = let same : f ≡ x = same_Some f x is in rw (← same) long
       go false (y ∷ ys) all is = let same : y ≡ x = same_Some y x is in rw (← same) (All-head (λ (g : List X). length g ≡ l.channels) y ys all)
-
-  -- a line is shaped, and each sample fits
-  pub is-line : (Fits : X → Type 0) (l : Frames X) → IsShaped l → All (All Fits) l.items → IsLineOf Fits l
-  is-line Fits l s fits = record { some = s.some; bound = s.bound; small = s.small; within = s.within; frames = λ k d h. record { count = s.each k d h; fits = fits k d h } }

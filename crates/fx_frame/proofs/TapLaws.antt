@@ -1,7 +1,6 @@
 -- The steps of a stage that makes each frame of that frame and of those before it.
-use Rattle.std.proofs.Common.{ℕ, ℤ, pos, zero, suc, ◌+◌, ◌-◌, ◌<◌, ◌≤◌, ◌≡◌, true, false, cond, List, [], ◌∷◌, ◌++◌, length, drop, refl, sym, ap, ◌∙◌, min, arith, replicate, append_assoc, add-one, sub-one}
+use Rattle.std.proofs.Common.{ℕ, ℤ, pos, zero, suc, ◌+◌, ◌-◌, ◌<◌, ◌≤◌, ◌≡◌, true, false, cond, List, [], ◌∷◌, ◌++◌, length, drop, refl, sym, ap, ◌∙◌, min, arith, replicate, append_assoc, sub-one}
 use Rattle.std.proofs.lemmas.Bool.{true_from_ne_false}
-use Rattle.std.proofs.Math.Nat.{suc-mul}
 use Rattle.std.specs.Prelude.{option_to_list, nat_le, Some, None, ◌^◌}
 use Rattle.std.specs.Int.{w32}
 use Rattle.std.proofs.lemmas.List.{length-append, length-drop, length-replicate, drop-append-le}
@@ -102,29 +101,6 @@ module _ {M : Type 0} (taps : Taps M) (near : IsNear taps) where
 
   ended-tail : (s : TapState M) → IsTapState taps s → 0 < s.tail → s.ended ≡ true
   ended-tail s is some = true_from_ne_false s.ended (λ e. let k = is.not_ended e in absurd (omega arith))
-
-  pub IsTapState-drained : (s : TapState M) (line : Frames ℤ) (silent_frame : Samples) (clips : ℕ) → IsTapState taps s → s.pending ≡ None → 0 < s.tail
-      → IsLine w32 line → line.items ≡ pushed s.line silent_frame → line.capacity ≡ s.line.capacity → line.channels ≡ s.line.channels → clips ≤ taps.max_clips s.arguments
-      → IsTapState taps (drained_tap s line clips)
-  IsTapState-drained s line silent_frame clips is none some lined items capacity channels little =
-      let over = ended-tail s is some in
-      let counted : s.given + 0 + s.tail ≡ s.taken + s.line.capacity = rw (none, over) at is.counted in
-      let before : length s.line.items ≡ min (s.given + 0) s.line.capacity = rw none at is.held in
-      let after : length line.items ≡ min (length s.line.items + 1) s.line.capacity = ap length items ∙ length-pushed s.line silent_frame in
-      record {
-        line = lined;
-        channels = channels ∙ is.channels;
-        capacity = capacity ∙ is.capacity;
-        counted = rw (none, over, capacity) (omega (arith, counted));
-        held = rw none (omega (arith, before, after, capacity));
-        idle = is.idle;
-        over = is.over;
-        bound = is.bound;
-        not_ended = λ running. absurd (cc (running, over));
-        clips_max = omega (arith, is.clips_max, little, suc-mul s.given (taps.max_clips s.arguments), add-one s.given);
-        pending_max = is.pending_max;
-        fits = is.fits;
-      }
 
   rest-silence : (m : M) (items : List Samples) (silent_frame : Samples) (tail c : ℕ) → 0 < tail → length items ≤ c → taps.reach m ≤ c
       → given_after taps m items (replicate tail silent_frame) ≡ taps.made m (sample_before (items ++ silent_frame ∷ []) (length items)) ∷ given_after taps m (drop (length (items ++ silent_frame ∷ []) - c) (items ++ silent_frame ∷ [])) (replicate (tail - 1) silent_frame)

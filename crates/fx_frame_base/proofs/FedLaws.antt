@@ -1,6 +1,6 @@
 -- What follows where a stage was fed.
-use Rattle.std.proofs.Common.{◌≡◌, ◌+◌, ℕ, List, [], ◌∷◌, ◌++◌, length, map, refl, sym, ap, ◌∙◌, arith, length-append, append_assoc, append-nil, subst, false, true}
-use Rattle.std.proofs.lemmas.List.{map-append, nil_from_length}
+use Rattle.std.proofs.Common.{◌≡◌, ◌+◌, ℕ, List, [], ◌∷◌, ◌++◌, length, map, refl, sym, ap, ◌∙◌, arith, length-append, append_assoc, append-nil}
+use Rattle.std.proofs.lemmas.List.{map-append}
 use Rattle.fx_frame_base.specs.declared.feed.Passing.{Passing}
 use Rattle.fx_frame_base.specs.declared.feed.Passing.TheVariants.{Kept, Through, More}
 use Rattle.fx_frame_base.specs.Feed.{Fed, GaveNext, IsHeld, PassedOn, TookNext, nothing, taken, given}
@@ -120,32 +120,3 @@ module _ {S R : Type 0} (acts : Acts S R) (first : S) where
   Fed-none xs gs s nothing e n = refl
   Fed-none xs gs s (taken ys hs x t t' fed took) e n = absurd (omega (arith, length-append ys (x ∷ []), e))
   Fed-none xs gs s (given ys hs g t t' fed gave) e n = absurd (omega (arith, length-append hs (g ∷ []), n))
-
-  -- what gives before it takes was not dry
-  pub Fed-wet : (xs gs : List Samples) (s : S) → Fed acts first xs gs s → length xs ≡ 0 → length gs ≡ 1 → acts.dry first ≡ false
-  Fed-wet xs gs s nothing e n = absurd (omega (arith, n))
-  Fed-wet xs gs s (taken ys hs x t t' fed took) e n = absurd (omega (arith, length-append ys (x ∷ []), e))
-  Fed-wet xs gs s (given ys hs g t t' fed gave) e n =
-      let same : t ≡ first = Fed-none ys hs t fed e (omega (arith, length-append hs (g ∷ []), n)) in
-      ap acts.dry (sym same) ∙ gave.gave.was_wet
-
-  -- a frame was taken, and none given
-  pub Fed-took : (xs gs : List Samples) (s : S) → Fed acts first xs gs s → length xs ≡ 1 → length gs ≡ 0 → (x : Samples) × (xs ≡ x ∷ []) × TookNext acts first s x
-  Fed-took xs gs s nothing e n = absurd (omega (arith, e))
-  Fed-took xs gs s (taken ys hs x t t' fed took) e n =
-      let none : length ys ≡ 0 = omega (arith, length-append ys (x ∷ []), e) in
-      let same : t ≡ first = Fed-none ys hs t fed none n in
-      (x, ap (λ zs. zs ++ x ∷ []) (nil_from_length ys none), subst (λ (u : S). TookNext acts u t' x) same took)
-  Fed-took xs gs s (given ys hs g t t' fed gave) e n = absurd (omega (arith, length-append hs (g ∷ []), n))
-
-  -- a frame was taken, and then one given
-  pub Fed-both : (xs gs : List Samples) (s : S) → acts.dry first ≡ true → Fed acts first xs gs s → length xs ≡ 1 → length gs ≡ 1
-      → (x : Samples) × (g : Samples) × (m : S) × (xs ≡ x ∷ []) × (gs ≡ g ∷ []) × TookNext acts first m x × GaveNext acts m s g
-  Fed-both xs gs s dry nothing e n = absurd (omega (arith, e))
-  Fed-both xs gs s dry (taken ys hs x t t' fed took) e n =
-      let wet = Fed-wet ys hs t fed (omega (arith, length-append ys (x ∷ []), e)) n in
-      absurd (cc (wet, dry))
-  Fed-both xs gs s dry (given ys hs g t t' fed gave) e n =
-      let none : length hs ≡ 0 = omega (arith, length-append hs (g ∷ []), n) in
-      let one = Fed-took ys hs t fed e none in
-      (one.0, g, t, one.1, ap (λ zs. zs ++ g ∷ []) (nil_from_length hs none), one.2, gave)

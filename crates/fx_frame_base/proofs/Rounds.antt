@@ -61,10 +61,3 @@ clips_of-next f i clips b e v =
       ap {B = ℕ} (λ c. cond c 1 0) v,
       ap clips_rounded (rounds-next f i) ∙ sum_by-append (λ r. cond (r.1) 1 0) (tabulate f 0 i) (f i ∷ []),
     )
-
--- one sample alone
-pub rounds-one : (f : ℤ → ℤ × Bool) (xs : List ℤ) (d : ℤ) (r : ℤ × Bool) → length xs ≡ 1 → r ≡ f (get_or xs 0 d) → (r.0 ∷ [] ≡ samples_of (map f xs)) × (bool_byte r.1 ≡ clips_rounded (map f xs))
-rounds-one f [] d r e v = absurd (omega arith)
-rounds-one f (x ∷ []) d r e v =
-    (ap (λ (q : ℤ × Bool). q.0 ∷ []) v, byte_is r.1 ∙ sym (zero-add (cond r.1 1 0)) ∙ clips_of-more f (x ∷ []) d 0 0 r.1 (omega arith) refl (ap (λ (q : ℤ × Bool). q.1) v))
-rounds-one f (x ∷ y ∷ xs) d r e v = absurd (omega arith)

@@ -9,7 +9,7 @@ use Rattle.std.proofs.lemmas.List.Elements.{All-nil, All-drop, All-push, All-wea
 use Rattle.fx_tap_delays.specs.DelayExtents.{sum_of_delays}
 use Rattle.fx_frame_base.specs.Frame.{Samples, silence, IsFrame}
 use Rattle.fx_frame_line.specs.Line.{Frames, IsSamples, pushed_out, empty}
-use Rattle.fx_frame_base.specs.Stage.{Gave, Took}
+use Rattle.fx_frame_base.specs.Stage.{Gave}
 use Rattle.fx_tap_delays.specs.Echo.{EchoArguments, IsEcho}
 use Rattle.fx_tap_delays.specs.EchosState.{EchosState, IsEchos, IsEchoLine, IsSeriesLine, after_push, came_of, delay_at, echos_acts, fed, frame_of_lines, frames_of_lines, let_go, line_at, lines_after, or_silence, echo_places, series_lines_after, through_lines}
 use Rattle.fx_frame.proofs.DryLaws.{dry-pending, dry-tail}
@@ -136,16 +136,6 @@ series_after s x = lines_after s.arguments.channels s.lines x (replicate s.argum
 -- the state after a frame came
 abbrev pub taken_echos : EchosState → List (Frames ℤ) → Samples → ℕ → EchosState
 taken_echos s lines out clips = record s { lines = lines; pending = Some out; pending_clips = clips; taken = s.taken + 1 }
-
-pub Took-echos : (s : EchosState) (lines : List (Frames ℤ)) (frame out : Samples) (clips : ℕ) → echos_acts.dry s ≡ true → s.ended ≡ false → lines ≡ series_after s frame
-    → out ≡ (frame_of_lines s.arguments frame (series_gone s frame)).samples → clips ≡ (frame_of_lines s.arguments frame (series_gone s frame)).clips → Took echos_acts s (taken_echos s lines out clips) frame
-Took-echos s lines frame out clips dry running lines_are out_is clips_are =
-    let none = dry-pending s.pending s.tail dry in
-    record {
-      rest = λ z. rw (none, running, lines_are, out_is, clips_are) refl;
-      counted = refl;
-      recipe_stays = refl;
-    }
 
 pub IsEchos-taken : (s : EchosState) (lines : List (Frames ℤ)) (frame out : Samples) (clips : ℕ) → IsEchos s → echos_acts.dry s ≡ true → s.ended ≡ false → s.taken < 2 ^ 56 → lines ≡ series_after s frame → Small (2 ^ 31) frame
     → clips ≤ 16 → IsFrame out → length out ≡ s.arguments.channels → IsEchos (taken_echos s lines out clips)

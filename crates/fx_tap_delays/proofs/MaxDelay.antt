@@ -17,6 +17,3 @@ take-whole [] zero h = refl
 take-whole [] (suc count) h = refl
 take-whole (d ∷ ds) zero h = absurd (omega arith)
 take-whole (d ∷ ds) (suc count) h = ap (λ l. d ∷ l) (take-whole ds count (omega arith))
-
-pub filled-up : (delays : List ℕ) (count more : ℕ) → length delays ≤ count → take count delays ++ replicate more 0 ≡ delays ++ replicate more 0
-filled-up delays count more h = ap (λ l. l ++ replicate more 0) (take-whole delays count h)

@@ -4,7 +4,7 @@ use Rattle.std.specs.Int.{w32}
 use Rattle.std.proofs.lemmas.Bool.{lt-ltb}
 use mathlib.Core.Path.{ap₂}
 use Rattle.std.proofs.lemmas.Int.{ints}
-use Rattle.std.proofs.lemmas.List.{drop_all, get_or-map, length-map}
+use Rattle.std.proofs.lemmas.List.{get_or-map, length-map}
 use Rattle.std.proofs.lemmas.List.Sums.{sum_by-cons}
 use Rattle.fx_frame_base.specs.Frame.{Samples}
 use Rattle.fx_tap_pointwise.specs.declared.remix.Contribution.{Contribution}
@@ -35,13 +35,6 @@ pub mixed-next : (n : ℕ) (cs : List Contribution) (i : ℕ) (c d : Contributio
     → y ≡ s +ℤ (c.parts *ℤ slice_index_or frame c.channel (pos 0)) → s +ℤ mixed_parts n (map pair_of (drop i cs)) frame ≡ w → y +ℤ mixed_parts n (map pair_of (drop (i + 1) cs)) frame ≡ w
 mixed-next n cs i c d frame y s w h is parts more whole =
     add-next y s (c.parts *ℤ slice_index_or frame c.channel (pos 0)) (mixed_parts n (map pair_of (drop (i + 1) cs)) frame) w more (ap (λ r. s +ℤ r) (sym (mixed-drop n cs i c d frame h is parts)) ∙ whole)
-
--- after the last
-pub mixed-last : (n : ℕ) (cs : List Contribution) (i : ℕ) (frame : Samples) (s w : ℤ) → length cs ≤ i → s +ℤ mixed_parts n (map pair_of (drop i cs)) frame ≡ w → s ≡ w
-mixed-last n cs i frame s w h whole =
-    let none : drop i cs ≡ [] = drop_all i cs h in
-    let e : s +ℤ pos 0 ≡ w = rw none at whole in
-    omega (arith, ints, e)
 
 -- what holds of each contribution
 pub made-at : (n : ℕ) (cs : List Contribution) (i : ℕ) (c : Contribution) → All (IsContribution n) cs → i < length cs → c ≡ get_or cs i c → c.parts ≡ remix_parts n c.weight

@@ -1,5 +1,5 @@
 -- Bytes as words of 64 bits, and words as frames.
-use Rattle.std.proofs.Common.{◌≡◌, ℕ, ◌+◌, ◌*◌, ◌<◌, ◌≤◌, ◌^◌, List, [], ◌∷◌, ◌++◌, length, get_or, take, drop, map, flat_map, refl, suc, sym, ap, ◌∙◌, append_assoc, inl, inr, Option, Some, None, Result, Ok, Err, IfOk, IsOk, IfSome, zero, ℤ, FitsSigned, arith}
+use Rattle.std.proofs.Common.{◌≡◌, ℕ, ◌+◌, ◌*◌, ◌<◌, ◌≤◌, ◌^◌, List, [], ◌∷◌, ◌++◌, length, get_or, take, drop, map, flat_map, refl, suc, sym, ap, ◌∙◌, append_assoc, inl, inr, Option, Some, None, Result, Ok, Err, IfOk, IfSome, zero, ℤ, FitsSigned, arith}
 use Rattle.std.proofs.lemmas.Bool.{cases_lt}
 use Rattle.std.proofs.lemmas.Int.{of_z-to_z, to_z-of_z}
 use Rattle.std.proofs.lemmas.List.{flat_map_more, get_or-drop, get_or-take, get_or_past, drop_at, take_at, length-append, length-map, length-take}
@@ -126,8 +126,3 @@ pub if_found-both : {X E : Type 0} {P Q R : X → Type 0} (r : Result (Option X)
 if_found-both (Ok (Some x)) both p q = both x p q
 if_found-both (Ok None) both p q = p
 if_found-both (Err e) both p q = p
-
--- what holds of an answer that is there
-pub ok-out : {X E R : Type 0} {P Q S : X → Type 0} (r : Result X E) → IsOk r → IfOk r P → IfOk r Q → IfOk r S → ((x : X) → P x → Q x → S x → R) → R
-ok-out (Ok x) is p q s known = known x p q s
-ok-out (Err e) is p q s known = (let wrong : ⊥ = cc in absurd wrong)
