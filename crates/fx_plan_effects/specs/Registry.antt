@@ -19,7 +19,7 @@ use Rattle.fx_cut.specs.Fade.{fade_kind, fade_meaning}
 use Rattle.fx_cut.specs.Upsample.{upsample_kind, upsample_meaning}
 use Rattle.fx_cut.specs.Downsample.{downsample_kind, downsample_meaning}
 use Rattle.fx_tap_delays.specs.Delay.{delay_kind, delayed, every_delay}
-use Rattle.fx_tap_delays.specs.EchoWords.{EchoValue, are_echoes, echo_value}
+use Rattle.fx_tap_delays.specs.EchoWords.{EchoValue, are_taps, echo_value}
 use Rattle.fx_tap_delays.specs.Echo.{echo, echo_kind}
 use Rattle.fx_tap_delays.specs.Echos.{echos, echos_kind}
 use Rattle.fx_tap_pointwise.specs.PerSample.{sample_kind}
@@ -89,8 +89,8 @@ is_usable other = true
 abbrev pub fits_layout : Layout → Act → Bool
 fits_layout layout (OfPad pads) = are_pads pads
 fits_layout layout (OfDelay ds) = nat_le (length ds) layout.channels
-fits_layout layout (OfEcho e) = are_echoes e
-fits_layout layout (OfEchos e) = are_echoes e
+fits_layout layout (OfEcho e) = are_taps e
+fits_layout layout (OfEchos e) = are_taps e
 fits_layout layout (OfFade fade) = is_fade fade
 fits_layout layout (OfDcShift shift) = nat_le (unsigned_abs shift) (2 * UNIT)
 fits_layout layout (OfFir gains) = nat_le 1 (length gains) && nat_le (length gains) 1024

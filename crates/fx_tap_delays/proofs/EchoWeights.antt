@@ -5,25 +5,25 @@ use Rattle.std.proofs.lemmas.Int.{fits_signed_from_abs, ints, to_z-of_z}
 use Rattle.std.proofs.lemmas.List.{length-map}
 use Rattle.fx_fixed.specs.Rounding.{rounding}
 use Rattle.fx_fixed.specs.declared.gains.TheConstants.{UNIT}
-use Rattle.fx_tap_delays.specs.Echo.{EchoArguments, echo_sum, echoed_sample, echoes_of}
+use Rattle.fx_tap_delays.specs.Echo.{EchoArguments, echo_sum, echoed_sample, sum_of_taps}
 use Rattle.fx_tap_sums.specs.Weights.{AreSmall, SoundsAs, Weights}
-use Rattle.fx_tap_delays.specs.EchoWeights.{Suits, weighed, weighed_echoes}
+use Rattle.fx_tap_delays.specs.EchoWeights.{Suits, weighed, weighed_taps}
 use Rattle.fx_tap_sums.specs.Products.{sum_of_products}
 use Rattle.fx_frame.specs.History.{History}
 use Rattle.fx_tap_sums.proofs.WeightLaws.{second-on}
 
 -- ---- places of the weighed echoes
 
-pub weighed-length : (es : List (ℕ × ℤ)) (ws : List ℤ) → length (weighed_echoes es ws) ≡ length es
+pub weighed-length : (es : List (ℕ × ℤ)) (ws : List ℤ) → length (weighed_taps es ws) ≡ length es
 weighed-length [] ws = refl
 weighed-length (e ∷ es) ws = ap suc (weighed-length es (drop 1 ws))
 
-pub weighed-place : (es : List (ℕ × ℤ)) (ws : List ℤ) (i : ℕ) (d : ℕ × ℤ) → i < length es → get_or (weighed_echoes es ws) i d ≡ ((get_or es i d).0, get_or ws i (pos 0))
+pub weighed-place : (es : List (ℕ × ℤ)) (ws : List ℤ) (i : ℕ) (d : ℕ × ℤ) → i < length es → get_or (weighed_taps es ws) i d ≡ ((get_or es i d).0, get_or ws i (pos 0))
 weighed-place [] ws i d h = absurd (omega (arith, h))
 weighed-place (e ∷ es) ws zero d h = refl
 weighed-place (e ∷ es) ws (suc i) d h = weighed-place es (drop 1 ws) i d (omega (arith, h)) ∙ ap (λ w. ((get_or es i d).0, w)) (second-on ws i)
 
-pub weighed-at : (es : List (ℕ × ℤ)) (ws : List ℤ) (i : ℕ) (x : ℕ × ℤ) → i < length es → x ≡ get_or es i x → (x.0, get_or ws (i + 1) (pos 0)) ≡ get_or (weighed_echoes es (drop 1 ws)) i x
+pub weighed-at : (es : List (ℕ × ℤ)) (ws : List ℤ) (i : ℕ) (x : ℕ × ℤ) → i < length es → x ≡ get_or es i x → (x.0, get_or ws (i + 1) (pos 0)) ≡ get_or (weighed_taps es (drop 1 ws)) i x
 weighed-at es ws i x h is =
     let next : suc i ≡ i + 1 = omega arith in
     let second : get_or (drop 1 ws) i (pos 0) ≡ get_or ws (i + 1) (pos 0) = second-on ws i ∙ ap (λ j. get_or ws j (pos 0)) next in
@@ -36,11 +36,11 @@ held-weight ws i small = to_z-of_z w32 (get_or ws i (pos 0)) (fits_signed_from_a
 
 -- ---- the echoes as products
 
-taps-products : (es : List (ℕ × ℤ)) (history : History) (k : ℕ) → echoes_of es history k ≡ sum_of_products (map (λ e. e.1) es) (map (λ e. history e.0 k) es)
+taps-products : (es : List (ℕ × ℤ)) (history : History) (k : ℕ) → sum_of_taps es history k ≡ sum_of_products (map (λ e. e.1) es) (map (λ e. history e.0 k) es)
 taps-products [] history k = refl
 taps-products (e ∷ es) history k = ap (λ z. (e.1 *ℤ history e.0 k) +ℤ z) (taps-products es history k)
 
-weighed-products : (es : List (ℕ × ℤ)) (ws : List ℤ) (history : History) (k : ℕ) → echoes_of (weighed_echoes es ws) history k ≡ sum_of_products ws (map (λ e. history e.0 k) es)
+weighed-products : (es : List (ℕ × ℤ)) (ws : List ℤ) (history : History) (k : ℕ) → sum_of_taps (weighed_taps es ws) history k ≡ sum_of_products ws (map (λ e. history e.0 k) es)
 weighed-products [] [] history k = refl
 weighed-products [] (w ∷ ws) history k = refl
 weighed-products (e ∷ es) [] history k = let more = weighed-products es [] history k in omega (arith, ints, more)

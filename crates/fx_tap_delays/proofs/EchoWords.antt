@@ -6,7 +6,7 @@ use Rattle.std.proofs.lemmas.Bool.{and_from, le-leb}
 use Rattle.fx_fixed.specs.declared.gains.TheConstants.{UNIT}
 use Rattle.fx_plan_words.specs.Faults.{Word, fault_at}
 use Rattle.fx_plan_words.specs.Numbers.{delay_in, gain_up_to}
-use Rattle.fx_tap_delays.specs.EchoWords.{are_echoes, echoing, is_tap, tap_faults, taps, echo_word_faults}
+use Rattle.fx_tap_delays.specs.EchoWords.{are_taps, echoing, is_tap, tap_faults, taps, echo_word_faults}
 use Rattle.fx_plan_words.proofs.Ranges.{delay_later, gain_small, kept, no_faults}
 
 -- the pairs of an echo
@@ -32,7 +32,7 @@ taps_some rate (delay ∷ []) h = absurd (omega arith)
 taps_some rate (delay ∷ decay ∷ words) h = omega arith
 
 -- an echo of words without a fault
-pub echoing_fits : (rate : ℕ) (words : List Word) → echo_word_faults rate words ≡ [] → 4 ≤ length words → length words ≤ 16 → are_echoes (echoing rate words) ≡ true
+pub echoing_fits : (rate : ℕ) (words : List Word) → echo_word_faults rate words ≡ [] → 4 ≤ length words → length words ≤ 16 → are_taps (echoing rate words) ≡ true
 echoing_fits rate [] h minimum maximum = absurd (omega arith)
 echoing_fits rate (first ∷ []) h minimum maximum = absurd (omega arith)
 echoing_fits rate (first ∷ second ∷ words) h minimum maximum =

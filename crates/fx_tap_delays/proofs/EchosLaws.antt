@@ -95,7 +95,7 @@ series_lines-sound c came d ls (x ∷ xs) bound small h j lt =
 -- the lines of a state after one frame more
 pub lines-sound : (s : EchosState) (x : Samples) → IsEchos s → Small (2 ^ 31) x → (j : ℕ) → j < length (lines_after s.arguments.channels s.lines x (replicate s.arguments.channels (pos 0)))
     → IsEchoLine s.arguments.channels (came_of s + 1) j (delay_at s.arguments.taps j) (line_at (lines_after s.arguments.channels s.lines x (replicate s.arguments.channels (pos 0))) j)
-lines-sound s x is xs j lt = series-sound s.arguments.channels (came_of s) (delay_at s.arguments.taps) s.lines x (let bound = is.arguments.echoes_max in let many = is.as_many in omega arith) xs is.lines j lt
+lines-sound s x is xs j lt = series-sound s.arguments.channels (came_of s) (delay_at s.arguments.taps) s.lines x (let bound = is.arguments.taps_max in let many = is.as_many in omega arith) xs is.lines j lt
 
 -- ---- places and frames
 

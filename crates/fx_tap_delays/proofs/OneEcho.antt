@@ -15,10 +15,10 @@ use Rattle.fx_frame_base.specs.Rounded.{clips_rounded, samples_of}
 use Rattle.fx_frame_base.proofs.ChannelPlaces.{within-frames}
 use Rattle.fx_frame_base.proofs.Pieces.{get_or-piece, length-pieces}
 use Rattle.fx_frame_base.proofs.Tabulate.{length-tabulate, tabulate-same}
-use Rattle.fx_tap_delays.specs.Echo.{EchoArguments, echo_sum, echoed_sample, echoes_of}
+use Rattle.fx_tap_delays.specs.Echo.{EchoArguments, echo_sum, echoed_sample, sum_of_taps}
 use Rattle.fx_tap_delays.specs.EchoState.{echo_taps}
 use Rattle.fx_tap_sums.specs.Weights.{SoundsAs, Weights}
-use Rattle.fx_tap_delays.specs.EchoWeights.{weighed, weighed_echoes}
+use Rattle.fx_tap_delays.specs.EchoWeights.{weighed, weighed_taps}
 use Rattle.fx_frame.specs.History.{History, sample_before}
 use Rattle.fx_frame.specs.Tapped.{clips_after, frames_after}
 use Rattle.fx_frame.proofs.Tables.{map-tabulate}
@@ -43,7 +43,7 @@ late-one line x k false is t =
     rw (there, first) refl
 
 -- the one echo
-late-echo : (es : List (ℕ × ℤ)) (ws : List ℤ) (history : History) (k reach : ℕ) → length es ≡ 1 → reach ≡ largest (map tap_delay es) → get_or ws 1 (pos 0) *ℤ history reach k ≡ echoes_of (weighed_echoes es (drop 1 ws)) history k
+late-echo : (es : List (ℕ × ℤ)) (ws : List ℤ) (history : History) (k reach : ℕ) → length es ≡ 1 → reach ≡ largest (map tap_delay es) → get_or ws 1 (pos 0) *ℤ history reach k ≡ sum_of_taps (weighed_taps es (drop 1 ws)) history k
 late-echo [] ws history k reach one far = absurd (omega arith)
 late-echo (e ∷ []) ws history k reach one far =
     let late : reach ≡ e.0 = omega (arith, far) in

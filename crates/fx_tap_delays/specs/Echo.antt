@@ -30,18 +30,18 @@ pub record IsEcho (a : EchoArguments) : Type 0 where
   pub some : 1 ≤ a.channels
   pub bound : a.channels ≤ 16
   pub gain_in : unsigned_abs a.gain_in ≤ UNIT
-  pub echoes_max : length a.taps ≤ 7
+  pub taps_max : length a.taps ≤ 7
   pub delays : All (λ e. 1 ≤ e.0) a.taps
   pub decays : All (λ e. unsigned_abs e.1 ≤ UNIT) a.taps
 
 -- the echoes of channel k, added
-abbrev pub echoes_of : List (ℕ × ℤ) → History → ℕ → ℤ
-echoes_of [] history k = pos 0
-echoes_of (e ∷ es) history k = (e.1 *ℤ history e.0 k) +ℤ echoes_of es history k
+abbrev pub sum_of_taps : List (ℕ × ℤ) → History → ℕ → ℤ
+sum_of_taps [] history k = pos 0
+sum_of_taps (e ∷ es) history k = (e.1 *ℤ history e.0 k) +ℤ sum_of_taps es history k
 
 -- channel k and its echoes, added
 abbrev pub echo_sum : EchoArguments → History → ℕ → ℤ
-echo_sum a history k = (a.gain_in *ℤ history 0 k) +ℤ echoes_of a.taps history k
+echo_sum a history k = (a.gain_in *ℤ history 0 k) +ℤ sum_of_taps a.taps history k
 
 -- channel k of the frame with its echoes: one exact fraction, rounded once
 abbrev pub echoed_sample : EchoArguments → History → ℕ → ℤ × Bool

@@ -11,13 +11,13 @@ use Rattle.fx_tap_delays.specs.Echo.{EchoArguments, echo_sum}
 use Rattle.fx_tap_sums.specs.Weights.{Weights, AreSmall, SoundsAs}
 
 -- echoes with those weights in place of the decays
-abbrev pub weighed_echoes : List (ℕ × ℤ) → List ℤ → List (ℕ × ℤ)
-weighed_echoes [] weights = []
-weighed_echoes (e ∷ es) weights = (e.0, slice_index_or weights 0 (pos 0)) ∷ weighed_echoes es (drop 1 weights)
+abbrev pub weighed_taps : List (ℕ × ℤ) → List ℤ → List (ℕ × ℤ)
+weighed_taps [] weights = []
+weighed_taps (e ∷ es) weights = (e.0, slice_index_or weights 0 (pos 0)) ∷ weighed_taps es (drop 1 weights)
 
 -- an `echo` with those weights in place of gain-in and the decays
 abbrev pub weighed : EchoArguments → List ℤ → EchoArguments
-weighed a weights = record a { gain_in = slice_index_or weights 0 (pos 0); taps = weighed_echoes a.taps (drop 1 weights) }
+weighed a weights = record a { gain_in = slice_index_or weights 0 (pos 0); taps = weighed_taps a.taps (drop 1 weights) }
 
 -- weights that an `echos` may take in place of its gains: the output of a line may be as large as eight samples
 pub record Suits (a : EchoArguments) (w : Weights) : Type 0 where

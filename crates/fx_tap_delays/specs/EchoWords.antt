@@ -27,8 +27,8 @@ abbrev pub is_tap : Tap → Bool
 is_tap tap = nat_le 1 tap.0 && nat_le (unsigned_abs tap.1) UNIT
 
 -- an input gain of at most one, and 1 to 7 such pairs
-abbrev pub are_echoes : EchoValue → Bool
-are_echoes e = nat_le (unsigned_abs e.gain_in) UNIT && (nat_le 1 (length e.taps) && (nat_le (length e.taps) 7 && list_all is_tap e.taps))
+abbrev pub are_taps : EchoValue → Bool
+are_taps e = nat_le (unsigned_abs e.gain_in) UNIT && (nat_le 1 (length e.taps) && (nat_le (length e.taps) 7 && list_all is_tap e.taps))
 
 -- the faults of pairs, the first word of which has this number
 abbrev pub tap_faults : ℕ → ℕ → List Word → List Mark

@@ -8,7 +8,7 @@ use Rattle.fx_frame_base.specs.Given.{plain, given_samples}
 use Rattle.fx_frame.specs.Tapped.{Agree, IsNear}
 use Rattle.fx_frame.specs.History.{History}
 use Rattle.fx_tap_delays.specs.DelayState.{delay_taps}
-use Rattle.fx_tap_delays.specs.Echo.{echoed_sample, echoes_of}
+use Rattle.fx_tap_delays.specs.Echo.{echoed_sample, sum_of_taps}
 use Rattle.fx_tap_delays.specs.EchoState.{echo_taps}
 
 -- each of the delays is at most the longest
@@ -27,15 +27,15 @@ pub delays-near : IsNear delay_taps
 delays-near delays p q h = ap plain (tabulate-equal (λ k. p (slice_index delays k) k) (λ k. q (slice_index delays k) k) 0 (length delays) (λ k. h (slice_index delays k) k (largest-le delays k)))
 
 -- no echo has a longer delay than the longest
-echoes_of-same : (taps : List (ℕ × ℤ)) (p q : History) (k : ℕ) → Agree (largest (map tap_delay taps)) p q → echoes_of taps p k ≡ echoes_of taps q k
-echoes_of-same [] p q k h = refl
-echoes_of-same (e ∷ es) p q k h =
+sum_of_taps-same : (taps : List (ℕ × ℤ)) (p q : History) (k : ℕ) → Agree (largest (map tap_delay taps)) p q → sum_of_taps taps p k ≡ sum_of_taps taps q k
+sum_of_taps-same [] p q k h = refl
+sum_of_taps-same (e ∷ es) p q k h =
     let first : p e.0 k ≡ q e.0 k = h e.0 k (omega arith) in
-    let more : echoes_of es p k ≡ echoes_of es q k = echoes_of-same es p q k (λ d c l. h d c (omega arith)) in
+    let more : sum_of_taps es p k ≡ sum_of_taps es q k = sum_of_taps-same es p q k (λ d c l. h d c (omega arith)) in
     rw (first, more) refl
 
 pub taps-near : IsNear echo_taps
 taps-near a p q h =
     ap given_samples (tabulate-equal (echoed_sample a p) (echoed_sample a q) 0 a.channels (λ k.
     let first : p 0 k ≡ q 0 k = h 0 k (omega arith) in
-    rw (first, echoes_of-same a.taps p q k h) refl))
+    rw (first, sum_of_taps-same a.taps p q k h) refl))

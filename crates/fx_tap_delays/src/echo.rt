@@ -471,7 +471,7 @@ impl PreparedEcho {
     /// What `tap_frames` does where the weights are small and no frame is an echo of another, for at most `PLACES` samples. The
     /// frames that an echo repeats stand in the line before the new ones go into it.
     #[inline(never)]
-    fn echoes_within<const PLACES: usize>(
+    fn taps_within<const PLACES: usize>(
         &self,
         small: &SmallWeights,
         line: &mut Line,
@@ -549,9 +549,9 @@ impl TapsMany for PreparedEcho {
             }
             if are_late(&self.taps, count) {
                 return if is_short {
-                    self.echoes_within::<SAMPLES_OF_BATCH>(small, line, samples, count)
+                    self.taps_within::<SAMPLES_OF_BATCH>(small, line, samples, count)
                 } else {
-                    self.echoes_within::<SAMPLES_OF_GROUP>(small, line, samples, count)
+                    self.taps_within::<SAMPLES_OF_GROUP>(small, line, samples, count)
                 };
             }
         }

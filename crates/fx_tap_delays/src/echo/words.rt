@@ -1,7 +1,7 @@
 //! The words of `echo` and `echos`: two gains, and pairs of a delay and a decay.
 
 ghost use Rattle.std.specs.Prelude.{◌≡◌, ◌<◌, ◌≤◌, IfOk, length, true};
-ghost use Rattle.fx_tap_delays.specs.EchoWords.{are_echoes, echo_faults, echo_value, echoing, tap_faults, taps, echo_word_faults};
+ghost use Rattle.fx_tap_delays.specs.EchoWords.{are_taps, echo_faults, echo_value, echoing, tap_faults, taps, echo_word_faults};
 ghost use Rattle.fx_tap_delays.specs.Texts.{ReadsTexts};
 
 use fx_fixed::Gain;
@@ -90,7 +90,7 @@ fn read_words(alloc: Global, rate: u32, words: &[String]) -> Result<Echoing, Wor
 pub fn read_echo(alloc: Global, rate: u32, words: &[String]) -> Result<Echoing, WordsRefusal>
     requires { 0 < rate }
     ensures read { ReadsTexts echo_value result (echo_faults rate) (echoing rate) words.now }
-    ensures fit { IfOk result (λ echo. are_echoes (echo_value echo) ≡ true) }
+    ensures fit { IfOk result (λ echo. are_taps (echo_value echo) ≡ true) }
 {
     if words.len() > MAX_WORDS {
         return Err(marked(PlanCause::WrongCount, MAX_WORDS + 2));

@@ -38,10 +38,10 @@ lines-preserved c =
     let line : c.feed-gone.new.line ≡ after_push (line_at old p) u = rw read at c.feed-gone.ensures.line in
     let fed_small = small-fed c.args.channels p c.args.frame c.lines.before (small-frame c.args.frame c.channels-count.ensures.frame.fits) c.lines.invariant.before in
     let small : Small ((p + 1) * 2 ^ 31) (or_silence c.args.channels (pushed_out (line_at old p) u)) = small-gone c.args.channels p (line_at old p) u (c.requires.lines p lt) fed_small in
-    let lt_echoes : p < length c.args.taps.now = omega arith in
+    let lt_taps : p < length c.args.taps.now = omega arith in
     let long = length-map c.args.taps.now (λ e. e.1) in
-    let decay : get_or (decays c.args.taps.now) p (pos 0) ≡ (get_or c.args.taps.now p c.index-taps-place.result).1 = get_or-map (λ e. e.1) c.args.taps.now p c.index-taps-place.result (pos 0) lt_echoes in
-    let decay_bound : unsigned_abs (get_or c.args.taps.now p c.index-taps-place.result).1 ≤ UNIT = All-get_or (λ e. unsigned_abs e.1 ≤ UNIT) c.args.taps.now p c.index-taps-place.result lt_echoes c.requires.decays in
+    let decay : get_or (decays c.args.taps.now) p (pos 0) ≡ (get_or c.args.taps.now p c.index-taps-place.result).1 = get_or-map (λ e. e.1) c.args.taps.now p c.index-taps-place.result (pos 0) lt_taps in
+    let decay_bound : unsigned_abs (get_or c.args.taps.now p c.index-taps-place.result).1 ≤ UNIT = All-get_or (λ e. unsigned_abs e.1 ≤ UNIT) c.args.taps.now p c.index-taps-place.result lt_taps c.requires.decays in
     let g : ℕ → ℤ = λ k. get_or (or_silence c.args.channels (pushed_out (line_at old p) u)) k (pos 0) in
     let added : (k : ℕ) → k < c.args.channels → get_or c.add_gone.new.sums k (pos 0) ≡ get_or c.lines.sums k (pos 0) +ℤ (get_or (decays c.args.taps.now) p (pos 0) *ℤ g k) = λ k l. rw (← gone, decay) (c.add_gone.ensures.added k l) in
     record {

@@ -12,7 +12,7 @@ empty_lines-requires-clause-delays c k d lt = let maximum = late-each c.args.tap
 pub invariant_of-result : goal.invariant_of-result
 invariant_of-result c =
     let a : EchoArguments = echo_with c.args.channels c.args.gain_in c.args.gain_out c.args.taps.now in
-    let fit : IsEcho a = record { some = c.requires.channels.0; bound = c.requires.channels.1; gain_in = c.requires.gain_in; echoes_max = c.requires.taps.1; delays = c.requires.delays; decays = c.requires.decays } in
+    let fit : IsEcho a = record { some = c.requires.channels.0; bound = c.requires.channels.1; gain_in = c.requires.gain_in; taps_max = c.requires.taps.1; delays = c.requires.delays; decays = c.requires.decays } in
     rw (c.in_ok-lines.ensures, c.in_ok-taps.ensures) (IsEchos-new a fit c.requires.lines, suits-of a c.small_of-small.result c.small_of-small.ensures.sounds c.small_of-small.ensures.small)
 
 pub returns : goal.returns

@@ -14,7 +14,7 @@ invariant_of-result c =
     let st = c.in_ok-lines.ensures.found in
     rw c.in-Ok.ensures (
       record {
-        arguments = record { some = c.requires.channels.0; bound = c.requires.channels.1; gain_in = c.requires.gain_in; echoes_max = c.requires.taps.1; delays = c.requires.delays; decays = c.requires.decays };
+        arguments = record { some = c.requires.channels.0; bound = c.requires.channels.1; gain_in = c.requires.gain_in; taps_max = c.requires.taps.1; delays = c.requires.delays; decays = c.requires.decays };
         whole = c.requires.lines;
         as_many = st.series.as_many;
         lines = rw st.pending_count_is st.series.lines_are;

@@ -6,7 +6,7 @@ use Rattle.fx_tap_delays.specs.Echo.{EchoArguments}
 use Rattle.fx_tap_sums.specs.Weights.{SoundsAs, Weights}
 use Rattle.fx_tap_delays.proofs.EchoPieces.{piece-clips, piece-frames}
 use Rattle.fx_frame_base.proofs.ListPlaces.{zeros-part}
-use Rattle.fx_tap_delays.proofs.echo.PreparedEcho.echoes_within.Goals as goal
+use Rattle.fx_tap_delays.proofs.echo.PreparedEcho.taps_within.Goals as goal
 
 pub add_piece-requires-clause-empty : goal.add_piece-requires-clause-empty
 add_piece-requires-clause-empty g c = λ k. zeros-part (length c.args.samples.now) g.row.PLACES k
