@@ -1,3 +1,4 @@
 pub mod Chain
+pub mod Feeding
 pub mod Snapshot
 pub mod Theorem

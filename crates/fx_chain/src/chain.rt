@@ -1,9 +1,7 @@
 //! The chain of a plan's effects.
-ghost use Rattle.std.specs.Prelude.{◌≡◌, ◌<◌, ◌≤◌, ◌+◌, ◌-◌, ◌*◌, ℕ, false, drop, IfOk, List, Some, [], length, map, option_to_list, slice_index, true};
+ghost use Rattle.std.specs.Prelude.{◌≡◌, ◌<◌, ◌≤◌, ◌+◌, ◌-◌, ◌*◌, ℕ, IfOk, List, Some, [], length, map, option_to_list, slice_index, true};
 ghost use Rattle.fx_chain.specs.Chain.{IsNewChain};
-ghost use Rattle.fx_chain_flow.specs.Feed.{FlowFed, FlowGave, FlowTookWithinSpace, GaveLast};
-ghost use Rattle.fx_frame_base.specs.Pipeline.{outputs_of};
-ghost use Rattle.fx_frame_base.specs.Lists.{pieces};
+ghost use Rattle.fx_chain.specs.Feeding.{ChainFed, inputs_in, outputs_in};
 ghost use Rattle.fx_chain_flow.specs.Parts.{AllNew, Parts, any_spent, given_by, moves_of, taken_of};
 ghost use Rattle.fx_chain_flow.specs.Composed.{due_of, enough_for};
 ghost use Rattle.fx_chain_flow.specs.Sound.{max_frames};
@@ -110,28 +108,16 @@ impl Chain {
     /// one more than was due before it. Where the output has no space for one frame, nothing changes; and once it has none,
     /// the call ends: the last step is the one that gave the last frame.
     pub fn feed(&mut self, input: &[i32], output: &mut [i32]) -> Passed
-        requires channels { (1 ≤ self.old.plan.head.channels) × (self.old.plan.head.channels ≤ 16) }
-        requires bound { (n : ℕ) → n * self.old.plan.head.channels ≤ length input.now → taken_of self.old.flow + n ≤ max_frames }
-        ensures fed { FlowFed effect_acts self.old.flow (pieces self.old.plan.head.channels result.taken input.now) (pieces (outputs_of self.old.plan.head.channels (kinds effect_acts self.old.flow.stages)) result.given output.new) self.new.flow }
-        ensures gave { FlowGave effect_acts self.old.flow (pieces self.old.plan.head.channels result.taken input.now) (pieces (outputs_of self.old.plan.head.channels (kinds effect_acts self.old.flow.stages)) result.given output.new) self.new.flow }
-        ensures read { result.taken * self.old.plan.head.channels ≤ length input.now }
-        ensures written { result.given * outputs_of self.old.plan.head.channels (kinds effect_acts self.old.flow.stages) ≤ length output.new }
-        ensures rest_unchanged { drop (result.given * outputs_of self.old.plan.head.channels (kinds effect_acts self.old.flow.stages)) output.new ≡ drop (result.given * outputs_of self.old.plan.head.channels (kinds effect_acts self.old.flow.stages)) output.old }
-        ensures waits { let outputs = outputs_of self.old.plan.head.channels (kinds effect_acts self.old.flow.stages) in result.given * outputs + outputs ≤ length output.new → StateIs effect_acts State.Busy self.new.flow → ⊥ }
-        ensures used { let outputs = outputs_of self.old.plan.head.channels (kinds effect_acts self.old.flow.stages) in result.given * outputs + outputs ≤ length output.new → self.new.flow.ended ≡ false → any_spent effect_acts self.new.flow.stages ≡ false
-            → length input.now < result.taken * self.old.plan.head.channels + self.old.plan.head.channels }
-        ensures free { FlowTookWithinSpace effect_acts self.old.flow result.taken (length output.old) }
-        ensures unchanged { length output.old < outputs_of self.old.plan.head.channels (kinds effect_acts self.old.flow.stages) → self.new ≡ self.old }
-        ensures full { let outputs = outputs_of self.old.plan.head.channels (kinds effect_acts self.old.flow.stages) in 1 ≤ result.given → length output.old < result.given * outputs + outputs
-            → GaveLast effect_acts self.old.flow (pieces self.old.plan.head.channels result.taken input.now) (pieces outputs result.given output.new) self.new.flow }
-        ensures plan { self.new.plan ≡ self.old.plan }
+        requires channels { (1 ≤ inputs_in self.old) × (inputs_in self.old ≤ 16) }
+        requires bound { (n : ℕ) → n * inputs_in self.old ≤ length input.now → taken_of self.old.flow + n ≤ max_frames }
+        ensures fed { ChainFed self.old self.new input.now output.old output.new result }
     {
         self.flow.feed(input, output)
     }
 
     /// Samples per frame that it gives.
     pub fn outputs(&self) -> usize
-        ensures value { result ≡ outputs_of self.now.plan.head.channels (kinds effect_acts self.now.flow.stages) }
+        ensures value { result ≡ outputs_in self.now }
         ensures range { (1 ≤ result) × (result ≤ 16) }
     {
         let _head = self.plan.head();

@@ -1,6 +1,7 @@
 -- What the calls of a stream return to C (this project's profile; packaging/soxchain.h).
 use Rattle.std.specs.Prelude.{ℕ, ℤ, ◌≡◌, ◌≢◌, ◌⊎◌, ◌+◌, ◌/◌, ◌%◌, ◌<◌, ◌≤◌, List, Option, Some, length}
 use Rattle.fx_chain.specs.Chain.{ChainParts}
+use Rattle.fx_chain.specs.Feeding.{inputs_in}
 use Rattle.fx_chain.specs.Snapshot.{IsSoundChain}
 use Rattle.fx_chain_flow.specs.Parts.{taken_of}
 use Rattle.fx_chain_flow.specs.Sound.{max_frames}
@@ -14,7 +15,7 @@ use Rattle.soxchain_c.specs.declared.stream_calls.SoxchainPassed.{SoxchainPassed
 use Rattle.soxchain_c.specs.Buffer.{filled}
 use Rattle.soxchain_c.specs.Status.{code}
 use Rattle.soxchain_stream.specs.Snapshots.{IsFrozenAs}
-use Rattle.soxchain_stream.specs.Streams.{WaitsFor, StreamWasFed, ended, inputs_in, wait_number}
+use Rattle.soxchain_stream.specs.Streams.{WaitsFor, StreamWasFed, ended, wait_number}
 
 -- a call left a stream in its handle, and returned the code of a status
 abbrev pub ChangesStream : Option Stream → ℤ → (Stream → Status → Type 0) → Type 0

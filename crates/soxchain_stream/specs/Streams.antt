@@ -1,42 +1,15 @@
 -- What the calls of a stream return (this project's profile).
-use Rattle.std.specs.Prelude.{ℕ, ℤ, ◌≡◌, ◌+◌, ◌*◌, ◌-◌, ◌<◌, ◌≤◌, ◌||◌, nat_lt, nat_eq, true, false, if◌then◌else◌, List, drop, length, map, slice_index, option_to_list}
-use Rattle.fx_chain.specs.Chain.{ChainParts}
+use Rattle.std.specs.Prelude.{ℕ, ℤ, ◌≡◌, ◌+◌, ◌-◌, ◌||◌, nat_lt, nat_eq, true, false, if◌then◌else◌, List, length, map, slice_index, option_to_list}
+use Rattle.fx_chain.specs.Feeding.{ChainFed}
 use Rattle.fx_chain_flow.specs.declared.flow.State.TheVariants as States
-use Rattle.fx_chain_flow.specs.Feed.{FlowFed, FlowTookWithinSpace}
-use Rattle.fx_frame_base.specs.Pipeline.{outputs_of}
 use Rattle.fx_chain_flow.specs.Parts.{any_spent}
 use Rattle.fx_chain_flow.specs.Steps.{IsHungry, StateIs}
 use Rattle.fx_frame_base.specs.declared.feed.Passed.{Passed}
-use Rattle.fx_frame_base.specs.Holds.{held_sum, kinds}
-use Rattle.fx_frame_base.specs.Lists.{pieces}
+use Rattle.fx_frame_base.specs.Holds.{held_sum}
 use Rattle.fx_chain_stages.specs.Stages.{effect_acts}
 use Rattle.soxchain_stream.specs.declared.stream.Stream.{Stream}
 use Rattle.soxchain_stream.specs.declared.stream.Waits.{Waits}
 use Rattle.soxchain_stream.specs.declared.stream.Waits.TheVariants.{Frames, Output, Nothing, End}
-
--- samples per frame that a chain takes, and per frame that it gives
-abbrev pub inputs_in : ChainParts → ℕ
-inputs_in c = c.plan.head.channels
-
-abbrev pub outputs_in : ChainParts → ℕ
-outputs_in c = outputs_of c.plan.head.channels (kinds effect_acts c.flow.stages)
-
--- A chain was fed: it took frames from the front of the input, one after the other, each through all effects before the next
--- one, and wrote those that were given to the front of the output.
-pub record ChainFed (c c' : ChainParts) (input old new : List ℤ) (passed : Passed) : Type 0 where
-  pub fed : FlowFed effect_acts c.flow (pieces (inputs_in c) passed.taken input) (pieces (outputs_in c) passed.given new) c'.flow
-  pub read : passed.taken * inputs_in c ≤ length input
-  pub written : passed.given * outputs_in c ≤ length new
-  pub rest_unchanged : drop (passed.given * outputs_in c) new ≡ drop (passed.given * outputs_in c) old
-  -- where there was space for one more frame, no frame is pending, and no frame was left that could be taken
-  pub waits : passed.given * outputs_in c + outputs_in c ≤ length new → StateIs effect_acts States.Busy c'.flow → ⊥
-  pub used : passed.given * outputs_in c + outputs_in c ≤ length new → c'.flow.ended ≡ false → any_spent effect_acts c'.flow.stages ≡ false
-      → length input < passed.taken * inputs_in c + inputs_in c
-  -- each frame was taken while the output had space for one more than was due before it
-  pub free : FlowTookWithinSpace effect_acts c.flow passed.taken (length old)
-  -- where the output has no space for one frame, the chain is unchanged
-  pub unchanged : length old < outputs_in c → c' ≡ c
-  pub plan : c'.plan ≡ c.plan
 
 -- a stream's chain was fed, and its plan is unchanged
 pub record StreamWasFed (s t : Stream) (input old new : List ℤ) (passed : Passed) : Type 0 where
