@@ -179,8 +179,7 @@ pub fn take_many<S: Feeds>(stage: &mut S, count: usize, input: &[i32])
     requires not_ended { (S.acts.counts stage.old).ended ≡ false }
     requires none_due { IsNoneDue S.acts count stage.old }
     requires ahead { IsAhead S.acts count stage.old }
-    requires inputs { (1 ≤ (kind S.acts stage.old).inputs) × ((kind S.acts stage.old).inputs ≤ 16) }
-    requires outputs { (kind S.acts stage.old).outputs ≤ 16 }
+    requires channels { let k = kind S.acts stage.old in (1 ≤ k.inputs) × (k.inputs ≤ 16) × (k.outputs ≤ 16) }
     requires input { length input.now ≡ count * (kind S.acts stage.old).inputs }
     requires below_limit { (S.acts.counts stage.old).taken + count ≤ (kind S.acts stage.old).limit }
     ensures took { TookAll S.acts (pieces (kind S.acts stage.old).inputs count input.now) stage.old stage.new }

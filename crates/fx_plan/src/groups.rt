@@ -47,7 +47,8 @@ pub fn next_effect(words: &[String]) -> Option<(&[String], &[String])>
 /// The first effect's name, its other words, and the words of the effects after it.
 pub fn split_effect(words: &[String]) -> Option<(&String, &[String], &[String])>
     ensures effects { MatchOption result (words.now ≡ [])
-        (λ x. effects_of (word_texts words.now) ≡ (string_bytes x.0.now ∷ word_texts x.1.now) ∷ effects_of (word_texts x.2.now)) }
+        (λ x. effects_of (word_texts words.now)
+        ≡ (string_bytes x.0.now ∷ word_texts x.1.now) ∷ effects_of (word_texts x.2.now)) }
     ensures shorter { IfSome result (λ x. length x.2.now < length words.now) }
 {
     let (effect, rest) = next_effect(words)?;

@@ -122,7 +122,8 @@ fn finish_with_head<R: ByteIn, W: ByteOut, M: ByteOut>(
 ) -> (u8, HeadBytes)
     requires { IsNewChain (planning prepared.plan) prepared.chain }
     ensures { (report : Report)
-        × Finished R.reads W.writes (ready_for line.now prepared) source.old source.new output.old output.new (Says M.writes message_writer.old message_writer.new) result.0 report
+        × Finished R.reads W.writes (ready_for line.now prepared) source.old source.new output.old output.new
+        (Says M.writes message_writer.old message_writer.new) result.0 report
         × (result.1 ≡ true_head (planning prepared.plan) report) }
 {
     let plan = &prepared.plan;

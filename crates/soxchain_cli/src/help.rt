@@ -48,7 +48,8 @@ pub fn tell_answer<H: Host, M: ByteOut>(
     message_writer: &mut MessageWriter<M>,
 ) -> u8
     ensures { IsShown (devices H.Input.reads H.Reader.reads H.Output.writes (file_writer H.Made.writes H.Made.rewinds))
-        H.machine H.looks H.file_calls M.writes answer.now host.old host.new message_writer.old message_writer.new result }
+        H.machine H.looks H.file_calls M.writes answer.now host.old host.new
+        message_writer.old message_writer.new result }
 {
     let mut output = host.output();
     let is_whole = write_whole(&mut output, answer.as_bytes());

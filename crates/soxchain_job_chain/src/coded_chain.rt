@@ -183,7 +183,8 @@ impl CodedChain {
         requires coded { length coded.old ≡ 4 * BLOCK_SAMPLES }
         requires running { self.old.chain.flow.ended ≡ false }
         ensures passes { OnOk result (Passes self.old self.new
-            (frames_of_sound self.old.chain.plan.head.coding self.old.chain.plan.head.channels bytes.now) output.old.items output.new.items) }
+            (frames_of_sound self.old.chain.plan.head.coding self.old.chain.plan.head.channels bytes.now)
+            output.old.items output.new.items) }
         ensures stays { KeepsPlan self.old self.new }
     {
         let size = self.frame_size();

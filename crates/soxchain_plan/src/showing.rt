@@ -42,7 +42,8 @@ pub fn stopped<H: Console, M: ByteOut>(
     messages: &mut M,
 ) -> u8
     ensures { Stops (record { input = H.Input.reads; file = H.Reader.reads; output = H.Output.writes })
-        H.machine M.writes style (message_of stop.now) (IsAdviceOn stop.now) (status_of stop.now) host.old host.new messages.old messages.new result }
+        H.machine M.writes style (message_of stop.now) (IsAdviceOn stop.now) (status_of stop.now)
+        host.old host.new messages.old messages.new result }
 {
     let advice = stop.advice();
     let status = stop.tell(messages, advice);

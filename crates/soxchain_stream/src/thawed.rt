@@ -108,7 +108,8 @@ pub fn thaw_from_bytes(alloc: Global, bytes: &[u8]) -> Result<Option<Stored>, Al
         snapshot_bytes s.numbers.items s.frames.items ≡ bytes.now)) }
     ensures stored { IfOk result (λ found. IfSome found (λ s. AreStored s.numbers.items s.frames.items)) }
     ensures back { IfOk result (λ found.
-        (numbers : List ℕ) (frames : List Samples) → AreStored numbers frames → snapshot_bytes numbers frames ≡ bytes.now
+        (numbers : List ℕ) (frames : List Samples) → AreStored numbers frames
+        → snapshot_bytes numbers frames ≡ bytes.now
         → MatchOption found ⊥ (λ s. (s.numbers.items ≡ numbers) × (s.frames.items ≡ frames))) }
 {
     let Some(words) = to_words(alloc, bytes)? else {
