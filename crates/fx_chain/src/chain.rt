@@ -1,13 +1,13 @@
 //! The chain of a plan's effects.
-ghost use Rattle.std.specs.Prelude.{◌≡◌, ◌<◌, ◌≤◌, ◌+◌, ◌-◌, ◌*◌, ℕ, IfOk, List, Some, [], length, map, option_to_list, slice_index, true};
+ghost use Rattle.std.specs.Prelude.{◌≡◌, ◌<◌, ◌≤◌, ◌+◌, ◌-◌, ◌*◌, ℕ, IfOk, List, Some, [], length, map, slice_index, true};
 ghost use Rattle.fx_chain.specs.Chain.{IsNewChain};
 ghost use Rattle.fx_chain.specs.Feeding.{ChainFed, inputs_in, outputs_in};
-ghost use Rattle.fx_chain_flow.specs.Parts.{AllNew, Parts, any_spent, given_by, moves_of, taken_of};
-ghost use Rattle.fx_chain_flow.specs.Composed.{due_of, enough_for};
+ghost use Rattle.fx_chain_flow.specs.Parts.{AllNew, Parts, any_spent, moves_of, taken_of};
 ghost use Rattle.fx_chain_flow.specs.Sound.{max_frames};
-ghost use Rattle.fx_chain_flow.specs.Steps.{IsDone, IsHungry, MovedOn, StateIs, Steps, StepsInSequence, rest_of, wholes_of};
+ghost use Rattle.fx_chain_flow.specs.Feed.{held_of};
+ghost use Rattle.fx_chain_flow.specs.Steps.{GaveDue, StepsOn, clips_in_all, given_in_all, has_enough, IsDone, IsHungry, MovedOn, StateIs, Steps, StepsInSequence, rest_of};
 ghost use Rattle.fx_frame_base.specs.Frame.{Samples};
-ghost use Rattle.fx_frame_base.specs.Holds.{capacity_sum, held_sum, kinds, total};
+ghost use Rattle.fx_frame_base.specs.Holds.{capacity_sum, total};
 ghost use Rattle.fx_plan_effects.specs.Bounds.{hold_all, work_of};
 ghost use Rattle.fx_plan_effects.specs.Meanings.{line_of_act};
 ghost use Rattle.fx_plan.specs.Planning.{planning};
@@ -63,8 +63,9 @@ impl Chain {
     pub fn state(&self) -> State
         ensures state { StateIs effect_acts result self.now.flow }
         ensures bounded { (n : ℕ) (last : Parts EffectStage) → StepsInSequence effect_acts self.now.flow n last
-            → n ≤ work_of self.now.plan.acts (taken_of self.now.flow) - moves_of effect_acts self.now.flow + length self.now.plan.acts }
-        ensures due { result ≡ State.Hungry → given_by effect_acts self.now.flow.left self.now.flow.stages ≡ due_of (kinds effect_acts self.now.flow.stages) (taken_of self.now.flow) }
+            → n ≤ work_of self.now.plan.acts (taken_of self.now.flow) - moves_of effect_acts self.now.flow
+            + length self.now.plan.acts }
+        ensures due { result ≡ State.Hungry → GaveDue effect_acts self.now.flow }
     {
         self.flow.state()
     }
@@ -95,7 +96,7 @@ impl Chain {
         requires { StateIs effect_acts State.Busy self.old.flow }
         ensures steps { Steps effect_acts self.old.flow result self.new.flow }
         ensures moved { MovedOn effect_acts self.old.flow result self.new.flow }
-        ensures sequence { (first : Parts EffectStage) (n : ℕ) → StepsInSequence effect_acts first n self.old.flow → StepsInSequence effect_acts first (n + 1) self.new.flow }
+        ensures sequence { StepsOn effect_acts self.old.flow self.new.flow }
         ensures plan { self.new.plan ≡ self.old.plan }
     {
         self.flow.step()
@@ -138,14 +139,14 @@ impl Chain {
     pub fn moves(&self) -> u64
         ensures value { result ≡ moves_of effect_acts self.now.flow }
         ensures within { result ≤ work_of self.now.plan.acts (taken_of self.now.flow) }
-        ensures done { IsDone effect_acts self.now.flow → result ≡ taken_of self.now.flow + total (λ w. w.given) (wholes_of effect_acts self.now.flow []) }
+        ensures done { IsDone effect_acts self.now.flow → result ≡ taken_of self.now.flow + given_in_all effect_acts self.now.flow }
     {
         self.flow.moves()
     }
 
     /// How many frames it holds: in the inlet, in the lines of its effects, and pending. At most the plan's `hold`.
     pub fn held(&self) -> u64
-        ensures value { result ≡ length (option_to_list self.now.flow.inlet) + held_sum effect_acts self.now.flow.stages }
+        ensures value { result ≡ held_of effect_acts self.now.flow }
         ensures within { result ≤ hold_all self.now.plan.acts }
     {
         self.flow.held()
@@ -163,8 +164,9 @@ impl Chain {
     pub fn clips(&self, number: usize) -> u64
         requires first { 1 ≤ number }
         requires last { number ≤ length self.now.plan.acts }
-        ensures value { result ≡ slice_index (map (λ s. (effect_acts.counts s).clips) self.now.flow.stages) (number - 1) }
-        ensures done { IsDone effect_acts self.now.flow → result ≡ slice_index (map (λ w. w.clips) (wholes_of effect_acts self.now.flow [])) (number - 1) }
+        ensures value { result
+            ≡ slice_index (map (λ s. (effect_acts.counts s).clips) self.now.flow.stages) (number - 1) }
+        ensures done { IsDone effect_acts self.now.flow → result ≡ slice_index (clips_in_all effect_acts self.now.flow) (number - 1) }
     {
         self.flow.clips(number - 1)
     }
@@ -172,8 +174,9 @@ impl Chain {
     /// Whether some effect gives nothing more, whatever input follows. Then no further frame changes what is still to be given.
     pub fn is_spent(&self) -> bool
         ensures value { result ≡ any_spent effect_acts self.now.flow.stages }
-        ensures enough { IsHungry effect_acts self.now.flow → result ≡ enough_for (kinds effect_acts self.now.flow.stages) (taken_of self.now.flow) }
-        ensures same { result ≡ true → (z : List Samples) → rest_of effect_acts self.now.flow z ≡ rest_of effect_acts self.now.flow [] }
+        ensures enough { IsHungry effect_acts self.now.flow → result ≡ has_enough effect_acts self.now.flow }
+        ensures same { result ≡ true → (z : List Samples)
+            → rest_of effect_acts self.now.flow z ≡ rest_of effect_acts self.now.flow [] }
     {
         self.flow.is_spent()
     }

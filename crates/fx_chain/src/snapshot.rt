@@ -1,9 +1,8 @@
 //! A chain as frames and numbers, and the chain that they came from.
-ghost use Rattle.std.specs.Prelude.{◌≡◌, ◌≤◌, ◌+◌, ◌*◌, ◌↔◌, Err, IfOk, MatchResult, OnOk, length, option_to_list};
+ghost use Rattle.std.specs.Prelude.{◌≡◌, ◌≤◌, ◌+◌, ◌*◌, ◌↔◌, Err, IfOk, OnOk, length, option_to_list};
 ghost use Rattle.std.specs.List.{All};
-ghost use Rattle.fx_chain.specs.Chain.{ChainParts};
-ghost use Rattle.fx_chain.specs.Snapshot.{IsSnapshotOf, IsSoundChain};
-ghost use Rattle.fx_frame_base.specs.Holds.{held_sum};
+ghost use Rattle.fx_chain.specs.Snapshot.{IsSnapshotOf, IsSoundChain, RestoresChain};
+ghost use Rattle.fx_chain_flow.specs.Feed.{held_of};
 ghost use Rattle.fx_plan_effects.specs.Bounds.{hold_all};
 ghost use Rattle.fx_plan.specs.Planning.{planning};
 ghost use Rattle.fx_chain_stages.specs.Stages.{effect_acts};
@@ -37,10 +36,11 @@ impl Chain {
     /// Samples in a line of `echos` may be sums beyond 32 bits, no others.
     pub fn freeze(&self, alloc: Global) -> Result<Snapshot, AllocError>
         ensures frozen { IfOk result (λ s. IsSnapshotOf self.now s) }
-        ensures frames { IfOk result (λ s. length s.frames.items ≡ length (option_to_list self.now.flow.inlet) + held_sum effect_acts self.now.flow.stages) }
+        ensures frames { IfOk result (λ s. length s.frames.items ≡ held_of effect_acts self.now.flow) }
         ensures within { IfOk result (λ s. length s.frames.items ≤ hold_all self.now.plan.acts) }
         ensures numbers { IfOk result (λ s. length s.numbers.items ≡ 8 * (length self.now.plan.acts + 1)) }
-        ensures narrow { OnOk result (AreNarrow (option_to_list self.now.flow.inlet) × All IsNarrow self.now.flow.stages) }
+        ensures narrow { OnOk result
+            (AreNarrow (option_to_list self.now.flow.inlet) × All IsNarrow self.now.flow.stages) }
         ensures sound { OnOk result (IsSoundChain self.now) }
     {
         let _held = self.held();
@@ -63,7 +63,7 @@ impl Chain {
         ensures wrong_plan { (result ≡ Err ThawFault.WrongPlan) ↔ (planning plan.now ≡ planning snapshot.now.plan → ⊥) }
         ensures plan { IfOk result (λ c. c.plan ≡ planning plan.now) }
         ensures frozen { IfOk result (λ c. IsSnapshotOf c snapshot.now) }
-        ensures thawed { (c : ChainParts) → IsSoundChain c → c.plan ≡ planning plan.now → IsSnapshotOf c snapshot.now → MatchResult result (λ t. t ≡ c) (λ e. e ≡ ThawFault.Memory) }
+        ensures thawed { RestoresChain (planning plan.now) snapshot.now result }
     {
         let is_same = *plan == snapshot.plan;
         if !is_same {
