@@ -139,7 +139,8 @@ impl Chain {
     pub fn moves(&self) -> u64
         ensures value { result ≡ moves_of effect_acts self.now.flow }
         ensures within { result ≤ work_of self.now.plan.acts (taken_of self.now.flow) }
-        ensures done { IsDone effect_acts self.now.flow → result ≡ taken_of self.now.flow + given_in_all effect_acts self.now.flow }
+        ensures done { IsDone effect_acts self.now.flow
+            → result ≡ taken_of self.now.flow + given_in_all effect_acts self.now.flow }
     {
         self.flow.moves()
     }
@@ -166,7 +167,8 @@ impl Chain {
         requires last { number ≤ length self.now.plan.acts }
         ensures value { result
             ≡ slice_index (map (λ s. (effect_acts.counts s).clips) self.now.flow.stages) (number - 1) }
-        ensures done { IsDone effect_acts self.now.flow → result ≡ slice_index (clips_in_all effect_acts self.now.flow) (number - 1) }
+        ensures done { IsDone effect_acts self.now.flow
+            → result ≡ slice_index (clips_in_all effect_acts self.now.flow) (number - 1) }
     {
         self.flow.clips(number - 1)
     }
