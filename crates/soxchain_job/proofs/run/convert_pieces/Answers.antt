@@ -6,7 +6,7 @@ use Rattle.soxchain_job.proofs.run.convert_pieces.Goals as goal
 pub loop-done-init : goal.loop-done-init
 loop-done-init g c =
     record {
-      live = c.requires.1.1.1.1.1.1;
+      live = c.requires.1.1.1.0.live;
       bound = omega arith;
       pieces = inr (omega arith);
       none = λ _. omega arith;
@@ -17,5 +17,5 @@ loop-done-init g c =
       reads = omega arith;
       delivered = omega arith;
       faults = omega arith;
-      run = λ k. no_call g.D.Disk.model (IsGrowing g.C.Conversion.model g.job) g.met.D.Disk.only_now (c.requires.1.1.1.1.1.0 k);
+      run = λ k. no_call g.D.Disk.model (IsGrowing g.C.Conversion.model g.job) g.met.D.Disk.only_now (c.requires.1.1.1.0.safe k);
     }

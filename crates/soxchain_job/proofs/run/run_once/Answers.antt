@@ -46,18 +46,18 @@ returns-in_err-convert_rest-clause-delivered g c = λ k.
     let continues = rw c.in-Some.is at (c.in_ok-offsets.ensures.continues k) in
     let size : g.I.Input.model.size c.args.input.now ≡ length g.job.input = g.met.I.Input.sized k.1 c.args.input.now ∙ ap length (c.requires.1.1.1.1.1.0 k.1) in
     let within : c.in-Some.offsets.taken ≤ length g.job.input = (let both = rw c.in-Some.is at (c.in_ok-offsets.ensures.live k) in both.0.within) in
-    λ taken written frozen ft fw e. omega (arith, (continues taken written frozen ft fw e).0, c.convert_rest.ensures.delivered, size, within)
+    λ taken written frozen ft fw e. omega (arith, (continues taken written frozen ft fw e).0, c.convert_rest.ensures.reads.delivered, size, within)
 
 pub returns-in_err-finish-clause-delivered : goal.returns-in_err-finish-clause-delivered
 returns-in_err-finish-clause-delivered g c = λ k.
     let continues = rw c.in-Some.is at (c.in_ok-offsets.ensures.continues k) in
     let size : g.I.Input.model.size c.args.input.now ≡ length g.job.input = g.met.I.Input.sized k.1 c.args.input.now ∙ ap length (c.requires.1.1.1.1.1.0 k.1) in
     let within : c.in-Some.offsets.taken ≤ length g.job.input = (let both = rw c.in-Some.is at (c.in_ok-offsets.ensures.live k) in both.0.within) in
-    λ taken written frozen ft fw e. omega (arith, (continues taken written frozen ft fw e).0, c.convert_rest.ensures.delivered, size, within)
+    λ taken written frozen ft fw e. omega (arith, (continues taken written frozen ft fw e).0, c.convert_rest.ensures.reads.delivered, size, within)
 
 pub returns-clause-delivered : goal.returns-clause-delivered
 returns-clause-delivered g c = λ k.
     let continues = rw c.in-Some.is at (c.in_ok-offsets.ensures.continues k) in
     let size : g.I.Input.model.size c.args.input.now ≡ length g.job.input = g.met.I.Input.sized k.1 c.args.input.now ∙ ap length (c.requires.1.1.1.1.1.0 k.1) in
     let within : c.in-Some.offsets.taken ≤ length g.job.input = (let both = rw c.in-Some.is at (c.in_ok-offsets.ensures.live k) in both.0.within) in
-    λ taken written frozen ft fw e. omega (arith, (continues taken written frozen ft fw e).0, c.convert_rest.ensures.delivered, size, within)
+    λ taken written frozen ft fw e. omega (arith, (continues taken written frozen ft fw e).0, c.convert_rest.ensures.reads.delivered, size, within)
