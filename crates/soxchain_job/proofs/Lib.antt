@@ -1,5 +1,6 @@
 pub mod Calls
 pub mod Ending
 pub mod Growing
+pub mod Leaving
 pub mod MemoryHistory
 pub mod Sequences

@@ -1,9 +1,9 @@
--- What a part of a run begins with, and what it leaves, while the output grows.
+-- What a part of a run begins with, and what it leaves.
 use Rattle.std.specs.Prelude.{◌≡◌, ℕ, length, Result, OnOk}
 use Rattle.soxchain_job.specs.Conversion.{ConversionModel}
 use Rattle.soxchain_job.specs.Disk.{DiskModel, LeavesNow, LeavesOnly}
 use Rattle.soxchain_job.specs.Input.{InputModel}
-use Rattle.soxchain_job.specs.Job.{IsGrowing, IsLive, Job}
+use Rattle.soxchain_job.specs.Job.{IsGrowing, IsLive, IsPublished, IsSafe, Job}
 use Rattle.soxchain_job.specs.Known.{BothKnown}
 use Rattle.soxchain_job.specs.declared.grow.Offsets.{Offsets}
 
@@ -22,6 +22,14 @@ GrowsNow conversions disks inputs job disk = BothKnown disks inputs → LeavesNo
 -- where both are known, a crash at any moment since `old` leaves a part that grows
 abbrev pub GrowsOnly : {C D I : Type 0} → ConversionModel C → DiskModel D → InputModel I → Job C → D → D → Type 0
 GrowsOnly conversions disks inputs job old new = BothKnown disks inputs → LeavesOnly disks old new (IsGrowing conversions job)
+
+-- where both are known, a crash at any moment since `old` leaves what may be found at any moment of a run
+abbrev pub StaysSafe : {C D I : Type 0} → ConversionModel C → DiskModel D → InputModel I → Job C → D → D → Type 0
+StaysSafe conversions disks inputs job old new = BothKnown disks inputs → LeavesOnly disks old new (IsSafe conversions job)
+
+-- where both are known, the output has its name after `Ok`
+abbrev pub Publishes : {C D I T E : Type 0} → ConversionModel C → DiskModel D → InputModel I → Job C → D → Result T E → Type 0
+Publishes conversions disks inputs job disk result = BothKnown disks inputs → OnOk result (IsPublished conversions disks job disk)
 
 -- where both are known, the conversion agrees with the part after `Ok`
 abbrev pub StaysLive : {C D I T E : Type 0} → ConversionModel C → DiskModel D → InputModel I → Job C → C → Offsets → D → Result T E → Type 0

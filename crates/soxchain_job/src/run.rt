@@ -3,7 +3,7 @@ ghost use Rattle.std.specs.Prelude.{◌≡◌, ◌<◌, ◌≤◌, ◌+◌, ◌-
 ghost use Rattle.soxchain_job.specs.Causes.{CountsAllFaults, CountsDiskFaults, HasPieceCause, HasWriteCause, RefusesNoCheckpoint};
 ghost use Rattle.soxchain_job.specs.Checkpoint.{Continues, ReadsRest, in_progress_bytes};
 ghost use Rattle.soxchain_job.specs.Disk.{CountsFaults, Durable, LeavesNow, LeavesOnly};
-ghost use Rattle.soxchain_job.specs.Growth.{CanGrow, GrowsNow, GrowsOnly, HasTakenAll, IsLiveAt, StaysLive};
+ghost use Rattle.soxchain_job.specs.Growth.{CanGrow, GrowsNow, GrowsOnly, HasTakenAll, IsLiveAt, Publishes, StaysLive, StaysSafe};
 ghost use Rattle.soxchain_job.specs.Input.{ReadsAtMost, ReadsBetween};
 ghost use Rattle.soxchain_job.specs.Known.{BothKnown};
 ghost use Rattle.soxchain_job.specs.Job.{IsGrowing, IsPublished, IsReady, IsRecoverable, IsSafe, Job, whole_output};
@@ -86,8 +86,8 @@ fn finish<C: Conversion, D: Disk, I: Input>(
     ghost job: { Job C }
     requires safe { GrowsNow C.model D.model I.model job disk.old }
     requires live { BothKnown D.model I.model → HasTakenAll C.model D.model job conversion.old disk.old }
-    ensures published { BothKnown D.model I.model → OnOk result (IsPublished C.model D.model job disk.new) }
-    ensures any_moment { BothKnown D.model I.model → LeavesOnly D.model disk.old disk.new (IsSafe C.model job) }
+    ensures published { Publishes C.model D.model I.model job disk.new result }
+    ensures any_moment { StaysSafe C.model D.model I.model job disk.old disk.new }
     ensures readable { RefusesNoCheckpoint result }
     ensures cause { CountsDiskFaults D.model disk.old disk.new result }
 {
@@ -112,7 +112,7 @@ fn resume<C: Conversion, D: Disk, I: Input>(
         × (LeavesNow D.model disk.new (IsGrowing C.model job)))) }
     ensures continues { BothKnown D.model I.model
         → IfOk result (Continues (D.model.seen disk.old).checkpoint) }
-    ensures any_moment { BothKnown D.model I.model → LeavesOnly D.model disk.old disk.new (IsSafe C.model job) }
+    ensures any_moment { StaysSafe C.model D.model I.model job disk.old disk.new }
     ensures readable { BothKnown D.model I.model → RefusesNoCheckpoint result }
     ensures cause { CountsDiskFaults D.model disk.old disk.new result }
     ensures changed { IsErrOf result Fault.InputChanged → ⊥ }

@@ -2,17 +2,15 @@ use Rattle.std.proofs.Common.{◌≡◌, ◌∙◌, ◌+◌, ◌≤◌, ◌^◌,
 use Rattle.std.proofs.lemmas.List.Folds.{drop_split}
 use Rattle.soxchain_job.specs.Image.{Image, contents_of}
 use Rattle.soxchain_job.specs.Conversion.{ConvertsPiece}
-use Rattle.soxchain_job.specs.Job.{IsGrowing, whole_output}
+use Rattle.soxchain_job.specs.Job.{whole_output}
 use Rattle.soxchain_job.specs.Known.{BothKnown}
-use Rattle.soxchain_job.proofs.Growing.{advanced, growing_tail, longer_output}
-use Rattle.soxchain_job.proofs.Calls.{one_call}
+use Rattle.soxchain_job.proofs.Growing.{advanced, longer_output}
+use Rattle.soxchain_job.proofs.Leaving.{after_append}
 use Rattle.soxchain_job.proofs.grow.advance.Goals as goal
 
 pub returns-in_err-append-clause-any_moment : goal.returns-in_err-append-clause-any_moment
 returns-in_err-append-clause-any_moment g c = λ k.
-    one_call g.D.Disk.model (IsGrowing g.C.Conversion.model g.job) g.met.D.Disk.only_now (c.requires.1.1.1.0.safe k) (c.append.ensures.time k.0)
-    (λ i now. let from = c.append.ensures.crash k.0 i now in
-    growing_tail g.C.Conversion.model g.job from.0 i (c.requires.1.1.1.0.safe k from.0 from.1) from.2)
+    after_append g.C.Conversion.model g.D.Disk.model g.job g.met.D.Disk.only_now (c.requires.1.1.1.0.safe k) (c.append.ensures.time k.0) (c.append.ensures.crash k.0)
 
 pub returns-clause-live : goal.returns-clause-live
 returns-clause-live g c = λ k.
@@ -33,9 +31,7 @@ returns-clause-live g c = λ k.
 
 pub returns-clause-any_moment : goal.returns-clause-any_moment
 returns-clause-any_moment g c = λ k.
-    one_call g.D.Disk.model (IsGrowing g.C.Conversion.model g.job) g.met.D.Disk.only_now (c.requires.1.1.1.0.safe k) (c.append.ensures.time k.0)
-    (λ i now. let from = c.append.ensures.crash k.0 i now in
-    growing_tail g.C.Conversion.model g.job from.0 i (c.requires.1.1.1.0.safe k from.0 from.1) from.2)
+    after_append g.C.Conversion.model g.D.Disk.model g.job g.met.D.Disk.only_now (c.requires.1.1.1.0.safe k) (c.append.ensures.time k.0) (c.append.ensures.crash k.0)
 
 pub returns-in_err-written-clause-cause : goal.returns-in_err-written-clause-cause
 returns-in_err-written-clause-cause g c =
