@@ -39,7 +39,7 @@ pub record HasPieceCause {C D I T : Type 0} (conversions : ConversionModel C) (d
 pub record HasWriteCause {D T : Type 0} (disks : DiskModel D) (disk disk' : D) (result : Result T Fault) : Type 0 where
   -- it reads no checkpoint
   pub readable : RefusesNoCheckpoint result
-  -- it does not look at the input
+  -- it does not say that the input has changed
   pub changed : IsErrOf result Faults.InputChanged → ⊥
   -- the disk failed only where it counted that
   pub counts : CountsDiskFaults disks disk disk' result

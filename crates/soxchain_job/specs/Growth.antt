@@ -15,23 +15,23 @@ IsLiveAt conversions disks job conversion offsets disk = IsLive conversions job 
 abbrev pub HasTakenAll : {C D : Type 0} → ConversionModel C → DiskModel D → Job C → C → D → Type 0
 HasTakenAll conversions disks job conversion disk = (written : ℕ) × IsLive conversions job conversion (length job.input) written (disks.seen disk)
 
--- where both are known, a crash now leaves a part that grows
+-- of a known disk and input: a crash now leaves a part that grows
 abbrev pub GrowsNow : {C D I : Type 0} → ConversionModel C → DiskModel D → InputModel I → Job C → D → Type 0
 GrowsNow conversions disks inputs job disk = BothKnown disks inputs → LeavesNow disks disk (IsGrowing conversions job)
 
--- where both are known, a crash at any moment since `old` leaves a part that grows
+-- of a known disk and input: a crash at any moment since `old` leaves a part that grows
 abbrev pub GrowsOnly : {C D I : Type 0} → ConversionModel C → DiskModel D → InputModel I → Job C → D → D → Type 0
 GrowsOnly conversions disks inputs job old new = BothKnown disks inputs → LeavesOnly disks old new (IsGrowing conversions job)
 
--- where both are known, a crash at any moment since `old` leaves what may be found at any moment of a run
+-- of a known disk and input: a crash at any moment since `old` leaves what may be found at any moment of a run
 abbrev pub StaysSafe : {C D I : Type 0} → ConversionModel C → DiskModel D → InputModel I → Job C → D → D → Type 0
 StaysSafe conversions disks inputs job old new = BothKnown disks inputs → LeavesOnly disks old new (IsSafe conversions job)
 
--- where both are known, the output has its name after `Ok`
+-- of a known disk and input: the output has its name after `Ok`
 abbrev pub Publishes : {C D I T E : Type 0} → ConversionModel C → DiskModel D → InputModel I → Job C → D → Result T E → Type 0
 Publishes conversions disks inputs job disk result = BothKnown disks inputs → OnOk result (IsPublished conversions disks job disk)
 
--- where both are known, the conversion agrees with the part after `Ok`
+-- of a known disk and input: the conversion agrees with the part after `Ok`
 abbrev pub StaysLive : {C D I T E : Type 0} → ConversionModel C → DiskModel D → InputModel I → Job C → C → Offsets → D → Result T E → Type 0
 StaysLive conversions disks inputs job conversion offsets disk result = BothKnown disks inputs → OnOk result (IsLiveAt conversions disks job conversion offsets disk)
 
