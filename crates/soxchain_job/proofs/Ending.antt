@@ -1,10 +1,11 @@
 -- What a crash leaves at the end of a job, and how the parts of a run join.
-use Rattle.std.proofs.Common.{◌≡◌, ◌⊎◌, inl, inr, ⊎_elim, ℕ, ◌<◌, ◌^◌, List, [], ◌++◌, Option, Some, None, Bor, length, sym, ◌∙◌, ap, subst, arith}
+use Rattle.std.proofs.Common.{◌≡◌, ◌⊎◌, inl, inr, ⊎_elim, ℕ, ◌+◌, ◌-◌, ◌<◌, ◌≤◌, ◌^◌, List, [], ◌++◌, Option, Some, None, Bor, length, sym, ◌∙◌, ap, subst, arith}
 use Rattle.std.proofs.lemmas.List.{drop_all}
-use Rattle.soxchain_job.specs.Checkpoint.{IsInProgress, IsComplete, in_progress_bytes, complete_bytes}
+use Rattle.soxchain_job.specs.Checkpoint.{Continues, IsInProgress, IsComplete, ReadsRest, in_progress_bytes, complete_bytes}
 use Rattle.soxchain_job.specs.declared.checkpoint.Checkpoint.{Checkpoint}
 use Rattle.soxchain_job.specs.declared.checkpoint.Checkpoint.TheVariants as Checkpoints
 use Rattle.soxchain_job.specs.declared.checkpoint.Progress.{Progress}
+use Rattle.soxchain_job.specs.declared.grow.Offsets.{Offsets}
 use Rattle.soxchain_job.specs.Image.{Image, contents_of}
 use Rattle.soxchain_job.specs.Conversion.{ConversionModel}
 use Rattle.soxchain_job.specs.Job.{HasEnded, IsConsistent, IsGrowing, IsLive, IsReady, IsRecoverable, IsSafe, Job, NoneOrConsistent, Saved, whole_output}
@@ -77,17 +78,17 @@ pub record ReadComplete (bytes : List ℕ) (found : Option Checkpoint) : Type 0 
 abbrev pub Decoded : List ℕ → Option Checkpoint → Type 0
 Decoded bytes found = ReadInProgress bytes found ⊎ ReadComplete bytes found
 
-pub decoded : {C : Type 0} (conversions : ConversionModel C) (job : Job C) (bytes : List ℕ) (found : Option Checkpoint) (now : Image)
-    → IsRecoverable conversions job now → now.checkpoint ≡ Some bytes
-    → ((taken written : ℕ) (frozen : List ℕ) → taken < 2 ^ 64 → written < 2 ^ 64 → bytes ≡ in_progress_bytes taken written frozen → IsInProgress taken written frozen found)
-    → ((summary : List ℕ) → bytes ≡ complete_bytes summary → IsComplete summary found) → Decoded bytes found
-decoded conversions job bytes found now (inl growing) checkpoint in_progress complete =
+pub decoded : {C : Type 0} (conversions : ConversionModel C) (job : Job C) (bytes read : List ℕ) (found : Option Checkpoint) (now : Image)
+    → IsRecoverable conversions job now → now.checkpoint ≡ Some bytes → read ≡ bytes
+    → ((taken written : ℕ) (frozen : List ℕ) → taken < 2 ^ 64 → written < 2 ^ 64 → read ≡ in_progress_bytes taken written frozen → IsInProgress taken written frozen found)
+    → ((summary : List ℕ) → read ≡ complete_bytes summary → IsComplete summary found) → Decoded bytes found
+decoded conversions job bytes read found now (inl growing) checkpoint same in_progress complete =
     let was = known conversions job now.checkpoint bytes (contents_of now.part) checkpoint growing.checkpoint in
-    inl (record { taken = was.taken; written = was.written; frozen = was.frozen; is = was.bytes; reads = in_progress was.taken was.written was.frozen was.taken_fits was.written_fits was.bytes })
-decoded conversions job bytes found now (inr ready) checkpoint in_progress complete =
+    inl (record { taken = was.taken; written = was.written; frozen = was.frozen; is = was.bytes; reads = in_progress was.taken was.written was.frozen was.taken_fits was.written_fits (same ∙ was.bytes) })
+decoded conversions job bytes read found now (inr ready) checkpoint same in_progress complete =
     let says = ready.checkpoint in
     let is : bytes ≡ complete_bytes says.summary = (let e = says.bytes in cc) in
-    inr (record { summary = says.summary; is = is; reads = complete says.summary is })
+    inr (record { summary = says.summary; is = is; reads = complete says.summary (same ∙ is) })
 
 pub none_is : (bytes : List ℕ) → Decoded bytes None → ⊥
 none_is bytes (inl read) = read.reads
@@ -102,3 +103,7 @@ in_progress_is bytes p (inl read) =
     read.is ∙ ap (λ (n : ℕ). in_progress_bytes n read.written read.frozen) (sym read.reads.0) ∙ ap (λ (n : ℕ). in_progress_bytes p.taken n read.frozen) (sym read.reads.1)
     ∙ ap (λ (l : List ℕ). in_progress_bytes p.taken p.written l) (sym read.reads.2)
 in_progress_is bytes p (inr read) = absurd read.reads
+
+-- a run that continues from these offsets, and reads no more than follows them
+pub reads_rest : (checkpoint : Option (List ℕ)) (offsets : Offsets) (old new : ℕ) {count size : ℕ} → count ≡ size → offsets.taken ≤ size → Continues checkpoint (Some offsets) → new ≤ old + (count - offsets.taken) → ReadsRest checkpoint size old new
+reads_rest checkpoint offsets old new same within continues bound = λ taken written frozen ft fw e. omega (arith, (continues taken written frozen ft fw e).0, bound, same, within)

@@ -84,3 +84,7 @@ put_truncated name len d c e = record {
 
 pub same_truncated : (name : FileName) (len : ℕ) (d : Image) → Truncated name len d d
 same_truncated name len d = record { elsewhere = put_same name d; tail = drop len (bytes_at name d); bytes = sym (take-append-drop len (bytes_at name d)) }
+
+-- a call that left the files as they were
+pub same_follows : (step : Image → Image → Type 0) → ((d : Image) → step d d) → (d c : Image) → c ≡ d → (from : Image) × (from ≡ d) × step from c
+same_follows step same d c e = (d, refl, subst (λ (i : Image). step d i) (sym e) (same d))

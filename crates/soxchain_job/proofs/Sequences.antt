@@ -4,9 +4,10 @@ use Rattle.soxchain_job.specs.Conversion.{ConversionModel}
 use Rattle.soxchain_job.specs.Disk.{DiskModel, LeavesNow, LeavesOnly, LeavesThrough}
 use Rattle.soxchain_job.specs.Image.{Image, contents_of}
 use Rattle.soxchain_job.specs.Job.{IsRecoverable, IsSafe, Job, NoneOrConsistent, OldOrComplete, target_of}
+use Rattle.soxchain_job.proofs.Calls.{OnlyNow}
 
 pub through_start : {D : Type 0} (disk : DiskModel D) {old : D} (P : Image → Type 0)
-    → ((d : D) (c : Image) → disk.left_since d (disk.moment d) c → disk.may_leave d c) → LeavesNow disk old P → LeavesThrough disk old old P
+    → OnlyNow disk → LeavesNow disk old P → LeavesThrough disk old old P
 through_start disk P only safe = record { later = omega arith; each = λ c left. safe c (only _ c left); before = λ t c le left. inl left }
 
 -- a run more

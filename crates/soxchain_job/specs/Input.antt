@@ -1,5 +1,5 @@
 -- The input of a job.
-use Rattle.std.specs.Prelude.{◌≡◌, ℕ, ◌<◌, ◌≤◌, List, Result, IsErrOf}
+use Rattle.std.specs.Prelude.{◌≡◌, ℕ, ◌+◌, ◌-◌, ◌<◌, ◌≤◌, List, Result, IsErrOf, OnOk}
 use Rattle.soxchain_job.specs.declared.input.InputFault.{InputFault}
 use Rattle.soxchain_job.specs.declared.input.InputFault.TheVariants.{Failed}
 
@@ -23,3 +23,17 @@ pub record CountsFailedReads {I T : Type 0} (inputs : InputModel I) (old new : I
 pub record SameBytes {I : Type 0} (inputs : InputModel I) (old new : I) : Type 0 where
   pub content : inputs.known → inputs.content new ≡ inputs.content old
   pub size : inputs.size new ≡ inputs.size old
+
+-- It has the same bytes as before, and has delivered at most so many.
+pub record ReadsAtMost {I : Type 0} (inputs : InputModel I) (old new : I) (count : ℕ) : Type 0 where
+  -- its bytes and its size are the same
+  pub bytes : SameBytes inputs old new
+  -- it delivers no more bytes
+  pub delivered : inputs.delivered new ≤ inputs.delivered old + count
+
+-- It is read from one offset to another, and not beyond its end.
+pub record ReadsBetween {I T E : Type 0} (inputs : InputModel I) (old new : I) (from to : ℕ) (result : Result T E) : Type 0 where
+  -- it delivers no more bytes than follow the first offset
+  pub bound : ReadsAtMost inputs old new (inputs.size old - from)
+  -- at `Ok` it delivers those between both, each once
+  pub reads : OnOk result (inputs.delivered new + from ≡ inputs.delivered old + to)

@@ -2,7 +2,7 @@
 use Rattle.std.specs.Prelude.{ℕ, ◌≡◌, ◌⊎◌, ◌≤◌, ◌<◌, ◌^◌, List, ◌++◌, Option, Some, None, length, take, drop}
 use Rattle.soxchain_job.specs.Checkpoint.{complete_bytes, in_progress_bytes}
 use Rattle.soxchain_job.specs.Conversion.{ConversionModel}
-use Rattle.soxchain_job.specs.Disk.{DiskModel, Durable}
+use Rattle.soxchain_job.specs.Disk.{DiskModel, Durable, LeavesNow}
 use Rattle.soxchain_job.specs.declared.disk.FileName.TheVariants.{Out}
 use Rattle.soxchain_job.specs.Image.{Image, contents_of}
 
@@ -106,3 +106,12 @@ pub record IsPublished {C D : Type 0} (conversions : ConversionModel C) (disks :
   pub out : (disks.seen disk).out ≡ Some (whole_output conversions job)
   pub durable : Durable Out (disks.seen disk) (disks.may_leave disk)
   pub removed : (disks.seen disk).checkpoint ≡ None
+
+-- The first run of a job begins: there is no checkpoint, and the name of the output has the file from before.
+pub record IsBeforeFirstRun {C D : Type 0} (disks : DiskModel D) (job : Job C) (disk : D) : Type 0 where
+  -- no checkpoint has taken anything
+  pub reached : job.reached ≡ 0
+  -- the program begins at this moment
+  pub begins : disks.began disk ≡ disks.moment disk
+  -- a crash now leaves no checkpoint, and the file from before
+  pub none : LeavesNow disks disk (λ c. (c.checkpoint ≡ None) × (c.out ≡ job.before))

@@ -3,6 +3,7 @@ pub mod Checkpoint
 pub mod Conversion
 pub mod Disk
 pub mod Fault
+pub mod Growth
 pub mod History
 pub mod Image
 pub mod Input

@@ -1,11 +1,11 @@
 //! Runs of a job, each stopped at any moment.
-ghost use Rattle.std.specs.Prelude.{◌≡◌, ◌⊎◌, ◌<◌, ◌≤◌, ◌^◌, length, ℕ, None, Some, IsErrOf, OnOk};
-ghost use Rattle.soxchain_job.specs.Causes.{CountsAllFaults};
+ghost use Rattle.std.specs.Prelude.{◌≡◌, ◌⊎◌, ◌≤◌, ◌^◌, length, ℕ, IsErrOf, OnOk};
+ghost use Rattle.soxchain_job.specs.Causes.{CountsAllFaults, RefusesNoCheckpoint};
 ghost use Rattle.soxchain_job.specs.Disk.{LeavesNow, LeavesThrough};
 ghost use Rattle.soxchain_job.specs.Image.{Image};
 ghost use Rattle.soxchain_job.specs.Input.{SameBytes};
 ghost use Rattle.soxchain_job.specs.Known.{BothKnown};
-ghost use Rattle.soxchain_job.specs.Job.{IsPublished, Job, OldOrComplete, whole_output, target_of};
+ghost use Rattle.soxchain_job.specs.Job.{IsBeforeFirstRun, IsPublished, Job, OldOrComplete, whole_output, target_of};
 
 use crate::{Conversion, Disk, Fault, Input, Pacing, run_once};
 use std::alloc::Global;
@@ -37,19 +37,17 @@ pub fn run_with_crashes<C: Conversion, D: CrashingDisk, I: Input, P: Pacing>(
     ghost job: { Job C }
     requires known { BothKnown D.model I.model }
     requires fresh { conversion.now ≡ job.start }
-    requires reached { job.reached ≡ 0 }
     requires input { I.model.content input.old ≡ job.input }
 
     // There is no checkpoint, and the name of the output has the file from before.
-    requires begins { D.model.began disk.old ≡ D.model.moment disk.old }
-    requires none { LeavesNow D.model disk.old (λ c. (c.checkpoint ≡ None) × (c.out ≡ job.before)) }
+    requires begins { IsBeforeFirstRun D.model job disk.old }
 
     // Where the last run ends well, its name has the complete output, durably.
     ensures published { OnOk result (IsPublished C.model D.model job disk.new) }
 
     // At each moment of each run that name has the file from before, or the complete output.
     ensures any_moment { LeavesThrough D.model disk.old disk.new (λ c. OldOrComplete (target_of C.model job) c.out) }
-    ensures readable { IsErrOf result Fault.BadCheckpoint → ⊥ }
+    ensures readable { RefusesNoCheckpoint result }
     ensures cause { CountsAllFaults D.model I.model disk.old disk.new input.old input.new result }
     ensures too_long { IsErrOf result Fault.TooLong → 2 ^ 64 ≤ length (whole_output C.model job) }
     ensures bytes { SameBytes I.model input.old input.new }

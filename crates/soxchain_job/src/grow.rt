@@ -1,11 +1,12 @@
 //! The part grows, and checkpoints are written.
-ghost use Rattle.std.specs.Prelude.{◌≡◌, ◌<◌, ◌≤◌, ◌+◌, ◌-◌, ◌^◌, length, List, ℕ, Some, IfOk, IsErrOf, OnErr, OnOk};
-ghost use Rattle.soxchain_job.specs.Causes.{CountsAllFaults, CountsDiskFaults};
+ghost use Rattle.std.specs.Prelude.{◌≡◌, ◌≤◌, ◌+◌, ◌^◌, List, ℕ, Some, IfOk, IsErrOf, OnErr, OnOk};
+ghost use Rattle.soxchain_job.specs.Causes.{CountsDiskFaults, HasPieceCause, HasWriteCause, RefusesNoCheckpoint};
 ghost use Rattle.soxchain_job.specs.Checkpoint.{in_progress_bytes};
-ghost use Rattle.soxchain_job.specs.Disk.{Durable, LeavesNow, LeavesOnly};
-ghost use Rattle.soxchain_job.specs.Input.{SameBytes};
+ghost use Rattle.soxchain_job.specs.Disk.{Durable};
+ghost use Rattle.soxchain_job.specs.Growth.{CanGrow, GrowsNow, GrowsOnly, IsLiveAt, StaysLive};
+ghost use Rattle.soxchain_job.specs.Input.{ReadsBetween};
 ghost use Rattle.soxchain_job.specs.Known.{BothKnown};
-ghost use Rattle.soxchain_job.specs.Job.{IsGrowing, IsLive, Job, whole_output};
+ghost use Rattle.soxchain_job.specs.Job.{Job};
 
 use crate::checkpoint::{Progress, encode};
 use crate::replace::replace_checkpoint;
@@ -52,25 +53,13 @@ pub fn advance<C: Conversion, D: Disk, I: Input>(
     buffers: &mut Buffers,
 ) -> Result<(), Fault>
     ghost job: { Job C }
-    requires input { I.model.known → I.model.content input.old ≡ job.input }
+    requires grows { CanGrow C.model D.model I.model job conversion.old disk.old input.old offsets.old }
     requires size { offsets.old.taken + size ≤ I.model.size input.old }
-    requires safe { BothKnown D.model I.model → LeavesNow D.model disk.old (IsGrowing C.model job) }
-    requires live { BothKnown D.model I.model → IsLive C.model job
-        conversion.old offsets.old.taken offsets.old.written (D.model.seen disk.old) }
-    ensures live { BothKnown D.model I.model → OnOk result (IsLive C.model job
-        conversion.new offsets.new.taken offsets.new.written (D.model.seen disk.new)) }
+    ensures live { StaysLive C.model D.model I.model job conversion.new offsets.new disk.new result }
     ensures taken { OnOk result (offsets.new.taken ≡ offsets.old.taken + size) }
-    ensures any_moment { BothKnown D.model I.model
-        → LeavesOnly D.model disk.old disk.new (IsGrowing C.model job) }
-    ensures readable { IsErrOf result Fault.BadCheckpoint → ⊥ }
-    ensures too_long { BothKnown D.model I.model
-        → IsErrOf result Fault.TooLong → 2 ^ 64 ≤ length (whole_output C.model job) }
-    ensures bytes { SameBytes I.model input.old input.new }
-    ensures cause { CountsAllFaults D.model I.model disk.old disk.new input.old input.new result }
-    ensures reads { OnOk result (I.model.delivered input.new + offsets.old.taken
-        ≡ I.model.delivered input.old + offsets.new.taken) }
-    ensures delivered { I.model.delivered input.new
-        ≤ I.model.delivered input.old + (I.model.size input.old - offsets.old.taken) }
+    ensures any_moment { GrowsOnly C.model D.model I.model job disk.old disk.new }
+    ensures cause { HasPieceCause C.model D.model I.model job disk.old disk.new input.old input.new result }
+    ensures reads { ReadsBetween I.model input.old input.new offsets.old.taken offsets.new.taken result }
 {
     let _length = input.len();
     buffers.input.clear();
@@ -92,19 +81,14 @@ pub fn write_checkpoint<C: Conversion, D: Disk, I: Input>(
     offsets: &Offsets,
 ) -> Result<(), Fault>
     ghost job: { Job C }
-    requires safe { BothKnown D.model I.model → LeavesNow D.model disk.old (IsGrowing C.model job) }
-    requires live { BothKnown D.model I.model → IsLive C.model job
-        conversion.now offsets.now.taken offsets.now.written (D.model.seen disk.old) }
-    ensures live { BothKnown D.model I.model → OnOk result (IsLive C.model job
-        conversion.now offsets.now.taken offsets.now.written (D.model.seen disk.new)) }
+    requires safe { GrowsNow C.model D.model I.model job disk.old }
+    requires live { BothKnown D.model I.model → IsLiveAt C.model D.model job conversion.now offsets.now disk.old }
+    ensures live { StaysLive C.model D.model I.model job conversion.now offsets.now disk.new result }
     ensures written { BothKnown D.model I.model
         → OnOk result ((frozen : List ℕ) × ((D.model.seen disk.new).checkpoint
         ≡ Some (in_progress_bytes offsets.now.taken offsets.now.written frozen))) }
-    ensures any_moment { BothKnown D.model I.model
-        → LeavesOnly D.model disk.old disk.new (IsGrowing C.model job) }
-    ensures readable { IsErrOf result Fault.BadCheckpoint → ⊥ }
-    ensures cause { CountsDiskFaults D.model disk.old disk.new result }
-    ensures changed { IsErrOf result Fault.InputChanged → ⊥ }
+    ensures any_moment { GrowsOnly C.model D.model I.model job disk.old disk.new }
+    ensures cause { HasWriteCause D.model disk.old disk.new result }
 {
     let bytes = encode(alloc, offsets.taken, offsets.written, conversion)?;
     disk.sync(FileName::Part)?;
@@ -121,14 +105,11 @@ pub fn begin<C: Conversion, D: Disk, I: Input>(
     ghost job: { Job C }
     requires fresh { conversion.now ≡ job.start }
     requires reached { BothKnown D.model I.model → job.reached ≡ 0 }
-    requires safe { BothKnown D.model I.model → LeavesNow D.model disk.old (IsGrowing C.model job) }
-    ensures live { BothKnown D.model I.model → IfOk result (λ o. IsLive C.model job
-        conversion.now o.taken o.written (D.model.seen disk.new)) }
-    ensures any_moment { BothKnown D.model I.model
-        → LeavesOnly D.model disk.old disk.new (IsGrowing C.model job) }
-    ensures readable { IsErrOf result Fault.BadCheckpoint → ⊥ }
-    ensures cause { CountsDiskFaults D.model disk.old disk.new result }
-    ensures changed { IsErrOf result Fault.InputChanged → ⊥ }
+    requires safe { GrowsNow C.model D.model I.model job disk.old }
+    ensures live { BothKnown D.model I.model
+        → IfOk result (λ o. IsLiveAt C.model D.model job conversion.now o disk.new) }
+    ensures any_moment { GrowsOnly C.model D.model I.model job disk.old disk.new }
+    ensures cause { HasWriteCause D.model disk.old disk.new result }
 {
     let bytes = encode(alloc, 0, 0, conversion)?;
     replace_checkpoint(disk, &bytes)?;
@@ -152,13 +133,12 @@ pub fn resume_from<C: Conversion, D: Disk, I: Input>(
         ≡ Some (in_progress_bytes progress.now.taken progress.now.written progress.now.frozen.now) }
     requires durable { BothKnown D.model I.model
         → Durable FileName.Checkpoint (D.model.seen disk.old) (D.model.may_leave disk.old) }
-    requires safe { BothKnown D.model I.model → LeavesNow D.model disk.old (IsGrowing C.model job) }
-    ensures live { BothKnown D.model I.model → IfOk result (λ o. IsLive C.model job
-        conversion.new o.taken o.written (D.model.seen disk.new)) }
+    requires safe { GrowsNow C.model D.model I.model job disk.old }
+    ensures live { BothKnown D.model I.model
+        → IfOk result (λ o. IsLiveAt C.model D.model job conversion.new o disk.new) }
     ensures taken { IfOk result (λ o. (o.taken ≡ progress.now.taken) × (o.written ≡ progress.now.written)) }
-    ensures any_moment { BothKnown D.model I.model
-        → LeavesOnly D.model disk.old disk.new (IsGrowing C.model job) }
-    ensures readable { BothKnown D.model I.model → IsErrOf result Fault.BadCheckpoint → ⊥ }
+    ensures any_moment { GrowsOnly C.model D.model I.model job disk.old disk.new }
+    ensures readable { BothKnown D.model I.model → RefusesNoCheckpoint result }
     ensures cause { CountsDiskFaults D.model disk.old disk.new result }
     ensures changed { IsErrOf result Fault.InputChanged → ⊥ }
 {

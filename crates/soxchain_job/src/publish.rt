@@ -1,8 +1,9 @@
 //! The part gets the name of the output.
 ghost use Rattle.std.specs.Prelude.{◌≡◌, ◌<◌, ◌≤◌, ◌⊎◌, None, Some, IsErrOf, OnOk};
 ghost use Rattle.soxchain_job.specs.Disk.{CountsFaults, Durable, LeavesNow, LeavesOnly};
+ghost use Rattle.soxchain_job.specs.Growth.{Publishes};
 ghost use Rattle.soxchain_job.specs.Known.{BothKnown};
-ghost use Rattle.soxchain_job.specs.Job.{HasEnded, IsPublished, IsReady, Job, whole_output};
+ghost use Rattle.soxchain_job.specs.Job.{HasEnded, IsReady, Job, whole_output};
 
 use crate::{Conversion, Disk, DiskFault, FileName, Input};
 
@@ -10,8 +11,7 @@ use crate::{Conversion, Disk, DiskFault, FileName, Input};
 pub fn publish<C: Conversion, D: Disk, I: Input>(disk: &mut D) -> Result<(), DiskFault>
     ghost job: { Job C }
     requires ready { BothKnown D.model I.model → LeavesNow D.model disk.old (IsReady C.model job) }
-    ensures published { BothKnown D.model I.model
-        → OnOk result (IsPublished C.model D.model job disk.new) }
+    ensures published { Publishes C.model D.model I.model job disk.new result }
     ensures any_moment { BothKnown D.model I.model → LeavesOnly D.model disk.old disk.new
         (λ c. IsReady C.model job c ⊎ HasEnded C.model job c) }
     ensures cause { CountsFaults D.model disk.old disk.new result }

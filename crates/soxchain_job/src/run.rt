@@ -1,11 +1,12 @@
 //! A run of a job, from wherever the last one was stopped.
-ghost use Rattle.std.specs.Prelude.{◌≡◌, ◌≢◌, ◌<◌, ◌≤◌, ◌+◌, ◌-◌, ◌*◌, ◌^◌, ◌⊎◌, length, min, List, ℕ, Option, None, Some, IfOk, IsErrOf, MatchOption, OnOk};
-ghost use Rattle.soxchain_job.specs.Causes.{CountsAllFaults, CountsDiskFaults};
+ghost use Rattle.std.specs.Prelude.{◌≡◌, ◌<◌, ◌≤◌, ◌+◌, ◌-◌, ◌*◌, ◌^◌, ◌⊎◌, length, min, List, ℕ, None, Some, IfOk, IsErrOf, MatchOption, OnOk};
+ghost use Rattle.soxchain_job.specs.Causes.{CountsAllFaults, CountsDiskFaults, HasPieceCause, HasWriteCause, RefusesNoCheckpoint};
 ghost use Rattle.soxchain_job.specs.Checkpoint.{Continues, ReadsRest, in_progress_bytes};
 ghost use Rattle.soxchain_job.specs.Disk.{CountsFaults, Durable, LeavesNow, LeavesOnly};
-ghost use Rattle.soxchain_job.specs.Input.{SameBytes};
+ghost use Rattle.soxchain_job.specs.Growth.{CanGrow, GrowsNow, GrowsOnly, HasTakenAll, IsLiveAt, Publishes, StaysLive, StaysSafe};
+ghost use Rattle.soxchain_job.specs.Input.{ReadsAtMost, ReadsBetween};
 ghost use Rattle.soxchain_job.specs.Known.{BothKnown};
-ghost use Rattle.soxchain_job.specs.Job.{IsGrowing, IsLive, IsPublished, IsReady, IsRecoverable, IsSafe, Job, whole_output};
+ghost use Rattle.soxchain_job.specs.Job.{IsGrowing, IsPublished, IsReady, IsRecoverable, IsSafe, Job, whole_output};
 
 use crate::checkpoint::{Checkpoint, decode, encode_complete};
 use crate::grow::{Buffers, Offsets, advance, begin, resume_from, write_checkpoint};
@@ -38,14 +39,12 @@ fn write_rest<C: Conversion, D: Disk, I: Input>(
     buffer: &mut Vec<u8>,
 ) -> Result<(), Fault>
     ghost job: { Job C }
-    requires safe { BothKnown D.model I.model → LeavesNow D.model disk.old (IsGrowing C.model job) }
-    requires live { BothKnown D.model I.model → (written : ℕ) × IsLive C.model job
-        conversion.old (length job.input) written (D.model.seen disk.old) }
+    requires safe { GrowsNow C.model D.model I.model job disk.old }
+    requires live { BothKnown D.model I.model → HasTakenAll C.model D.model job conversion.old disk.old }
     ensures complete { BothKnown D.model I.model
         → OnOk result (LeavesNow D.model disk.new (λ c. c.part ≡ Some (whole_output C.model job))) }
-    ensures any_moment { BothKnown D.model I.model
-        → LeavesOnly D.model disk.old disk.new (IsGrowing C.model job) }
-    ensures readable { IsErrOf result Fault.BadCheckpoint → ⊥ }
+    ensures any_moment { GrowsOnly C.model D.model I.model job disk.old disk.new }
+    ensures readable { RefusesNoCheckpoint result }
     ensures cause { CountsDiskFaults D.model disk.old disk.new result }
 {
     buffer.clear();
@@ -62,16 +61,14 @@ fn mark_complete<C: Conversion, D: Disk, I: Input>(
     conversion: &C,
 ) -> Result<(), Fault>
     ghost job: { Job C }
-    requires safe { BothKnown D.model I.model → LeavesNow D.model disk.old (IsGrowing C.model job) }
+    requires safe { GrowsNow C.model D.model I.model job disk.old }
     requires complete { BothKnown D.model I.model
         → LeavesNow D.model disk.old (λ c. c.part ≡ Some (whole_output C.model job)) }
     ensures ready { BothKnown D.model I.model
         → OnOk result (LeavesNow D.model disk.new (IsReady C.model job)) }
     ensures any_moment { BothKnown D.model I.model
         → LeavesOnly D.model disk.old disk.new (IsRecoverable C.model job) }
-    ensures readable { IsErrOf result Fault.BadCheckpoint → ⊥ }
-    ensures cause { CountsDiskFaults D.model disk.old disk.new result }
-    ensures changed { IsErrOf result Fault.InputChanged → ⊥ }
+    ensures cause { HasWriteCause D.model disk.old disk.new result }
 {
     let summary = conversion.summary(alloc)?;
     let bytes = encode_complete(alloc, &summary)?;
@@ -87,14 +84,11 @@ fn finish<C: Conversion, D: Disk, I: Input>(
     buffer: &mut Vec<u8>,
 ) -> Result<(), Fault>
     ghost job: { Job C }
-    requires safe { BothKnown D.model I.model → LeavesNow D.model disk.old (IsGrowing C.model job) }
-    requires live { BothKnown D.model I.model → (written : ℕ) × IsLive C.model job
-        conversion.old (length job.input) written (D.model.seen disk.old) }
-    ensures published { BothKnown D.model I.model
-        → OnOk result (IsPublished C.model D.model job disk.new) }
-    ensures any_moment { BothKnown D.model I.model
-        → LeavesOnly D.model disk.old disk.new (IsSafe C.model job) }
-    ensures readable { IsErrOf result Fault.BadCheckpoint → ⊥ }
+    requires safe { GrowsNow C.model D.model I.model job disk.old }
+    requires live { BothKnown D.model I.model → HasTakenAll C.model D.model job conversion.old disk.old }
+    ensures published { Publishes C.model D.model I.model job disk.new result }
+    ensures any_moment { StaysSafe C.model D.model I.model job disk.old disk.new }
+    ensures readable { RefusesNoCheckpoint result }
     ensures cause { CountsDiskFaults D.model disk.old disk.new result }
 {
     write_rest::<C, D, I>(disk, conversion, buffer)?;
@@ -111,17 +105,15 @@ fn resume<C: Conversion, D: Disk, I: Input>(
 ) -> Result<Option<Offsets>, Fault>
     ghost job: { Job C }
     requires fresh { conversion.old ≡ job.start }
-    requires safe { BothKnown D.model I.model
-        → LeavesNow D.model disk.old (IsRecoverable C.model job) }
+    requires safe { BothKnown D.model I.model → LeavesNow D.model disk.old (IsRecoverable C.model job) }
     ensures live { BothKnown D.model I.model → IfOk result (λ r. MatchOption r
         (IsPublished C.model D.model job disk.new)
-        (λ p. IsLive C.model job conversion.new p.taken p.written (D.model.seen disk.new)
+        (λ p. IsLiveAt C.model D.model job conversion.new p disk.new
         × (LeavesNow D.model disk.new (IsGrowing C.model job)))) }
     ensures continues { BothKnown D.model I.model
         → IfOk result (Continues (D.model.seen disk.old).checkpoint) }
-    ensures any_moment { BothKnown D.model I.model
-        → LeavesOnly D.model disk.old disk.new (IsSafe C.model job) }
-    ensures readable { BothKnown D.model I.model → IsErrOf result Fault.BadCheckpoint → ⊥ }
+    ensures any_moment { StaysSafe C.model D.model I.model job disk.old disk.new }
+    ensures readable { BothKnown D.model I.model → RefusesNoCheckpoint result }
     ensures cause { CountsDiskFaults D.model disk.old disk.new result }
     ensures changed { IsErrOf result Fault.InputChanged → ⊥ }
 {
@@ -161,28 +153,16 @@ fn convert_pieces<C: Conversion, D: Disk, I: Input>(
     buffers: &mut Buffers,
 ) -> Result<(), Fault>
     ghost job: { Job C }
-    requires input { I.model.known → I.model.content input.old ≡ job.input }
+    requires grows { CanGrow C.model D.model I.model job conversion.old disk.old input.old offsets.old }
     requires some { (0 < pace.piece) × (0 < pace.every) }
-    requires safe { BothKnown D.model I.model → LeavesNow D.model disk.old (IsGrowing C.model job) }
-    requires live { BothKnown D.model I.model → IsLive C.model job
-        conversion.old offsets.old.taken offsets.old.written (D.model.seen disk.old) }
-    ensures live { BothKnown D.model I.model → OnOk result (IsLive C.model job
-        conversion.new offsets.new.taken offsets.new.written (D.model.seen disk.new)) }
+    ensures live { StaysLive C.model D.model I.model job conversion.new offsets.new disk.new result }
     ensures pieces { OnOk result ((I.model.size input.old ≤ offsets.new.taken)
         ⊎ (offsets.new.taken ≡ offsets.old.taken + pace.every * pace.piece)) }
     ensures advances { OnOk result (offsets.old.taken < I.model.size input.old
         → offsets.old.taken < offsets.new.taken) }
-    ensures any_moment { BothKnown D.model I.model
-        → LeavesOnly D.model disk.old disk.new (IsGrowing C.model job) }
-    ensures readable { IsErrOf result Fault.BadCheckpoint → ⊥ }
-    ensures too_long { BothKnown D.model I.model
-        → IsErrOf result Fault.TooLong → 2 ^ 64 ≤ length (whole_output C.model job) }
-    ensures bytes { SameBytes I.model input.old input.new }
-    ensures cause { CountsAllFaults D.model I.model disk.old disk.new input.old input.new result }
-    ensures reads { OnOk result (I.model.delivered input.new + offsets.old.taken
-        ≡ I.model.delivered input.old + offsets.new.taken) }
-    ensures delivered { I.model.delivered input.new
-        ≤ I.model.delivered input.old + (I.model.size input.old - offsets.old.taken) }
+    ensures any_moment { GrowsOnly C.model D.model I.model job disk.old disk.new }
+    ensures cause { HasPieceCause C.model D.model I.model job disk.old disk.new input.old input.new result }
+    ensures reads { ReadsBetween I.model input.old input.new offsets.old.taken offsets.new.taken result }
 {
     let mut done = 0;
     while done < pace.every && offsets.taken < input.len() {
@@ -204,13 +184,9 @@ fn convert_to_checkpoint<C: Conversion, D: Disk, I: Input>(
     buffers: &mut Buffers,
 ) -> Result<(), Fault>
     ghost job: { Job C }
-    requires input { I.model.known → I.model.content input.old ≡ job.input }
+    requires grows { CanGrow C.model D.model I.model job conversion.old disk.old input.old offsets.old }
     requires some { (0 < pace.piece) × (0 < pace.every) }
-    requires safe { BothKnown D.model I.model → LeavesNow D.model disk.old (IsGrowing C.model job) }
-    requires live { BothKnown D.model I.model → IsLive C.model job
-        conversion.old offsets.old.taken offsets.old.written (D.model.seen disk.old) }
-    ensures live { BothKnown D.model I.model → OnOk result (IsLive C.model job
-        conversion.new offsets.new.taken offsets.new.written (D.model.seen disk.new)) }
+    ensures live { StaysLive C.model D.model I.model job conversion.new offsets.new disk.new result }
     ensures pieces { OnOk result ((I.model.size input.old ≤ offsets.new.taken)
         ⊎ (offsets.new.taken ≡ offsets.old.taken + pace.every * pace.piece)) }
     ensures written { BothKnown D.model I.model
@@ -218,17 +194,9 @@ fn convert_to_checkpoint<C: Conversion, D: Disk, I: Input>(
         ≡ Some (in_progress_bytes offsets.new.taken offsets.new.written frozen))) }
     ensures advances { OnOk result (offsets.old.taken < I.model.size input.old
         → offsets.old.taken < offsets.new.taken) }
-    ensures any_moment { BothKnown D.model I.model
-        → LeavesOnly D.model disk.old disk.new (IsGrowing C.model job) }
-    ensures readable { IsErrOf result Fault.BadCheckpoint → ⊥ }
-    ensures too_long { BothKnown D.model I.model
-        → IsErrOf result Fault.TooLong → 2 ^ 64 ≤ length (whole_output C.model job) }
-    ensures bytes { SameBytes I.model input.old input.new }
-    ensures cause { CountsAllFaults D.model I.model disk.old disk.new input.old input.new result }
-    ensures reads { OnOk result (I.model.delivered input.new + offsets.old.taken
-        ≡ I.model.delivered input.old + offsets.new.taken) }
-    ensures delivered { I.model.delivered input.new
-        ≤ I.model.delivered input.old + (I.model.size input.old - offsets.old.taken) }
+    ensures any_moment { GrowsOnly C.model D.model I.model job disk.old disk.new }
+    ensures cause { HasPieceCause C.model D.model I.model job disk.old disk.new input.old input.new result }
+    ensures reads { ReadsBetween I.model input.old input.new offsets.old.taken offsets.new.taken result }
 {
     convert_pieces(disk, conversion, input, pace, offsets, buffers)?;
     write_checkpoint::<C, D, I>(alloc, disk, conversion, offsets)?;
@@ -246,21 +214,12 @@ fn convert_rest<C: Conversion, D: Disk, I: Input, P: Pacing>(
     buffers: &mut Buffers,
 ) -> Result<(), Fault>
     ghost job: { Job C }
-    requires input { I.model.known → I.model.content input.old ≡ job.input }
-    requires safe { BothKnown D.model I.model → LeavesNow D.model disk.old (IsGrowing C.model job) }
-    requires live { BothKnown D.model I.model → IsLive C.model job
-        conversion.old offsets.old.taken offsets.old.written (D.model.seen disk.old) }
-    ensures live { BothKnown D.model I.model → OnOk result ((written : ℕ)
-        × IsLive C.model job conversion.new (length job.input) written (D.model.seen disk.new)) }
-    ensures any_moment { BothKnown D.model I.model
-        → LeavesOnly D.model disk.old disk.new (IsGrowing C.model job) }
-    ensures readable { IsErrOf result Fault.BadCheckpoint → ⊥ }
-    ensures too_long { BothKnown D.model I.model
-        → IsErrOf result Fault.TooLong → 2 ^ 64 ≤ length (whole_output C.model job) }
-    ensures bytes { SameBytes I.model input.old input.new }
-    ensures cause { CountsAllFaults D.model I.model disk.old disk.new input.old input.new result }
-    ensures delivered { I.model.delivered input.new
-        ≤ I.model.delivered input.old + (I.model.size input.old - offsets.old.taken) }
+    requires grows { CanGrow C.model D.model I.model job conversion.old disk.old input.old offsets.old }
+    ensures live { BothKnown D.model I.model
+        → OnOk result (HasTakenAll C.model D.model job conversion.new disk.new) }
+    ensures any_moment { GrowsOnly C.model D.model I.model job disk.old disk.new }
+    ensures cause { HasPieceCause C.model D.model I.model job disk.old disk.new input.old input.new result }
+    ensures reads { ReadsAtMost I.model input.old input.new (I.model.size input.old - offsets.old.taken) }
 {
     while offsets.taken < input.len() {
         let pace = pacing.next(offsets);
@@ -280,19 +239,14 @@ pub fn run_once<C: Conversion, D: Disk, I: Input, P: Pacing>(
     ghost job: { Job C }
     requires fresh { conversion.old ≡ job.start }
     requires input { I.model.known → I.model.content input.old ≡ job.input }
-    requires safe { BothKnown D.model I.model
-        → LeavesNow D.model disk.old (IsRecoverable C.model job) }
-    ensures published { BothKnown D.model I.model
-        → OnOk result (IsPublished C.model D.model job disk.new) }
-    ensures any_moment { BothKnown D.model I.model
-        → LeavesOnly D.model disk.old disk.new (IsSafe C.model job) }
-    ensures readable { BothKnown D.model I.model → IsErrOf result Fault.BadCheckpoint → ⊥ }
+    requires safe { BothKnown D.model I.model → LeavesNow D.model disk.old (IsRecoverable C.model job) }
+    ensures published { BothKnown D.model I.model → OnOk result (IsPublished C.model D.model job disk.new) }
+    ensures any_moment { BothKnown D.model I.model → LeavesOnly D.model disk.old disk.new (IsSafe C.model job) }
+    ensures readable { BothKnown D.model I.model → RefusesNoCheckpoint result }
     ensures too_long { BothKnown D.model I.model
         → IsErrOf result Fault.TooLong → 2 ^ 64 ≤ length (whole_output C.model job) }
-    ensures bytes { SameBytes I.model input.old input.new }
     ensures cause { CountsAllFaults D.model I.model disk.old disk.new input.old input.new result }
-    ensures bound { I.model.delivered input.new
-        ≤ I.model.delivered input.old + I.model.size input.old }
+    ensures reads { ReadsAtMost I.model input.old input.new (I.model.size input.old) }
     ensures delivered { BothKnown D.model I.model
         → ReadsRest (D.model.seen disk.old).checkpoint (length job.input)
         (I.model.delivered input.old) (I.model.delivered input.new) }

@@ -1,4 +1,4 @@
-use Rattle.std.proofs.Common.{◌≡◌, ◌∙◌, ◌≤◌, ◌-◌, ℕ, List, ap, arith, drop, length}
+use Rattle.std.proofs.Common.{◌∙◌, ◌≤◌, ◌-◌, ℕ, List, ap, arith, drop, length}
 use Rattle.std.proofs.lemmas.List.{length-drop, take_all}
 use Rattle.soxchain_job.proofs.checkpoint.decode.Goals as goal
 

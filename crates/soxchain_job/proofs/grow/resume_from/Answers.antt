@@ -1,16 +1,15 @@
 use Rattle.std.proofs.Common.{◌≡◌, ◌∙◌, ℕ, List, ap, subst, sym, arith}
 use Rattle.soxchain_job.specs.Checkpoint.{in_progress_bytes}
 use Rattle.soxchain_job.specs.Image.{Image, contents_of}
-use Rattle.soxchain_job.specs.Job.{IsConsistent, IsGrowing}
-use Rattle.soxchain_job.proofs.Growing.{truncate_keeps, known, same_checkpoint, resumed}
-use Rattle.soxchain_job.proofs.Calls.{one_call}
+use Rattle.soxchain_job.specs.Job.{IsConsistent}
+use Rattle.soxchain_job.proofs.Growing.{known, same_checkpoint, resumed}
+use Rattle.soxchain_job.proofs.Leaving.{after_truncate}
 use Rattle.soxchain_job.proofs.grow.resume_from.Goals as goal
 
 pub returns-in_err-truncate-clause-any_moment : goal.returns-in_err-truncate-clause-any_moment
 returns-in_err-truncate-clause-any_moment g c = λ k.
-    let safe = c.requires.1.1.1.1.1.1 k in
-    one_call g.D.Disk.model (IsGrowing g.C.Conversion.model g.job) g.met.D.Disk.only_now safe (c.truncate.ensures.time k.0) (λ i now. let from = c.truncate.ensures.crash k.0 i now in
-    truncate_keeps g.C.Conversion.model g.job c.args.progress.now.taken c.args.progress.now.written c.args.progress.now.frozen.now (omega arith) (omega arith) from.0 i (safe from.0 from.1) (c.requires.1.1.1.1.1.0 k from.0 from.1 ∙ c.requires.1.1.1.1.0 k) from.2)
+    after_truncate g.C.Conversion.model g.D.Disk.model g.job c.args.progress.now.taken c.args.progress.now.written c.args.progress.now.frozen.now g.met.D.Disk.only_now (omega arith) (omega arith)
+    (c.requires.1.1.1.1.1.1 k) (c.requires.1.1.1.1.0 k) (c.requires.1.1.1.1.1.0 k) (c.truncate.ensures.time k.0) (c.truncate.ensures.crash k.0)
 
 pub returns-clause-live : goal.returns-clause-live
 returns-clause-live g c = λ k.
@@ -24,6 +23,5 @@ returns-clause-live g c = λ k.
 
 pub returns-clause-any_moment : goal.returns-clause-any_moment
 returns-clause-any_moment g c = λ k.
-    let safe = c.requires.1.1.1.1.1.1 k in
-    one_call g.D.Disk.model (IsGrowing g.C.Conversion.model g.job) g.met.D.Disk.only_now safe (c.truncate.ensures.time k.0) (λ i now. let from = c.truncate.ensures.crash k.0 i now in
-    truncate_keeps g.C.Conversion.model g.job c.args.progress.now.taken c.args.progress.now.written c.args.progress.now.frozen.now (omega arith) (omega arith) from.0 i (safe from.0 from.1) (c.requires.1.1.1.1.1.0 k from.0 from.1 ∙ c.requires.1.1.1.1.0 k) from.2)
+    after_truncate g.C.Conversion.model g.D.Disk.model g.job c.args.progress.now.taken c.args.progress.now.written c.args.progress.now.frozen.now g.met.D.Disk.only_now (omega arith) (omega arith)
+    (c.requires.1.1.1.1.1.1 k) (c.requires.1.1.1.1.0 k) (c.requires.1.1.1.1.1.0 k) (c.truncate.ensures.time k.0) (c.truncate.ensures.crash k.0)

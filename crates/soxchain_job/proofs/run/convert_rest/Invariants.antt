@@ -1,23 +1,12 @@
-use Rattle.std.proofs.Common.{◌-◌, ◌≤◌, ◌≡◌, ◌+◌}
-use Rattle.soxchain_job.specs.Disk.{LeavesOnly}
-use Rattle.soxchain_job.specs.Job.{IsGrowing, IsLive}
-use Rattle.soxchain_job.specs.Known.{BothKnown}
+use Rattle.std.proofs.Common.{◌-◌}
+use Rattle.soxchain_job.proofs.Pieces.{HasConverted}
 use Rattle.soxchain_job.proofs.run.convert_rest.Given as goal
 
 abbrev pub ghost-convert_to_checkpoint : goal.ghost-convert_to_checkpoint
 ghost-convert_to_checkpoint g a = g.job
 
 abbrev pub invariant-loop-offsets : goal.invariant-loop-offsets
-invariant-loop-offsets g l = record {
-  live : BothKnown g.D.Disk.model g.I.Input.model → IsLive g.C.Conversion.model g.job l.conversion l.offsets.taken l.offsets.written (g.D.Disk.model.seen l.disk);
-  content : g.I.Input.model.known → g.I.Input.model.content l.input ≡ g.I.Input.model.content l.fn.input;
-  size : g.I.Input.model.size l.input ≡ g.I.Input.model.size l.fn.input;
-  failures : g.I.Input.model.failures l.fn.input ≤ g.I.Input.model.failures l.input;
-  reads : g.I.Input.model.delivered l.input + l.fn.offsets.taken ≡ g.I.Input.model.delivered l.fn.input + l.offsets.taken;
-  delivered : g.I.Input.model.delivered l.input ≤ g.I.Input.model.delivered l.fn.input + (g.I.Input.model.size l.fn.input - l.fn.offsets.taken);
-  faults : g.D.Disk.model.faults l.fn.disk ≤ g.D.Disk.model.faults l.disk;
-  run : BothKnown g.D.Disk.model g.I.Input.model → LeavesOnly g.D.Disk.model l.fn.disk l.disk (IsGrowing g.C.Conversion.model g.job);
-}
+invariant-loop-offsets g l = HasConverted g.C.Conversion.model g.D.Disk.model g.I.Input.model g.job l.fn.offsets.taken l.fn.disk l.disk l.fn.input l.input l.conversion l.offsets
 
 abbrev pub decreases-loop-offsets : goal.decreases-loop-offsets
 decreases-loop-offsets g l = g.I.Input.model.size l.input - l.offsets.taken

@@ -1,9 +1,10 @@
-use Rattle.std.proofs.Common.{◌≡◌, ◌≤◌, ◌∙◌, ap, arith, inl, length, rules}
-use Rattle.soxchain_job.specs.Disk.{LeavesOnly}
+use Rattle.std.proofs.Common.{◌∙◌, ap, length, rules}
 use Rattle.soxchain_job.specs.Known.{BothKnown}
 use Rattle.soxchain_job.specs.Image.{Image}
-use Rattle.soxchain_job.specs.Job.{IsGrowing, IsLive, IsSafe}
-use Rattle.soxchain_job.proofs.Calls.{joined, now_of, weaker}
+use Rattle.soxchain_job.specs.Job.{IsGrowing, IsLive}
+use Rattle.soxchain_job.proofs.Calls.{joined, now_of}
+use Rattle.soxchain_job.proofs.Ending.{reads_rest}
+use Rattle.soxchain_job.proofs.Leaving.{growing_safe}
 use Rattle.soxchain_job.proofs.run.run_once.Goals as goal
 
 pub returns-in_default-clause-published : goal.returns-in_default-clause-published
@@ -22,8 +23,7 @@ convert_rest-requires g c κs within =
 
 pub returns-in_err-convert_rest-clause-any_moment : goal.returns-in_err-convert_rest-clause-any_moment
 returns-in_err-convert_rest-clause-any_moment g c = λ k.
-    let converted : LeavesOnly g.D.Disk.model c.resume.new.disk c.convert_rest.new.disk (IsSafe g.C.Conversion.model g.job) = weaker (c.convert_rest.ensures.any_moment k) (λ i h. inl (inl h)) in
-    joined (c.resume.ensures.any_moment k) converted
+    joined (c.resume.ensures.any_moment k) (growing_safe g.C.Conversion.model g.D.Disk.model g.job (c.convert_rest.ensures.any_moment k))
 
 pub finish-requires : goal.finish-requires
 finish-requires g c κs within =
@@ -33,31 +33,26 @@ finish-requires g c κs within =
 
 pub returns-in_err-finish-clause-any_moment : goal.returns-in_err-finish-clause-any_moment
 returns-in_err-finish-clause-any_moment g c = λ k.
-    let converted : LeavesOnly g.D.Disk.model c.resume.new.disk c.convert_rest.new.disk (IsSafe g.C.Conversion.model g.job) = weaker (c.convert_rest.ensures.any_moment k) (λ i h. inl (inl h)) in
-    joined (joined (c.resume.ensures.any_moment k) converted) (c.finish.ensures.any_moment k)
+    joined (joined (c.resume.ensures.any_moment k) (growing_safe g.C.Conversion.model g.D.Disk.model g.job (c.convert_rest.ensures.any_moment k))) (c.finish.ensures.any_moment k)
 
 pub returns-clause-any_moment : goal.returns-clause-any_moment
 returns-clause-any_moment g c = λ k.
-    let converted : LeavesOnly g.D.Disk.model c.resume.new.disk c.convert_rest.new.disk (IsSafe g.C.Conversion.model g.job) = weaker (c.convert_rest.ensures.any_moment k) (λ i h. inl (inl h)) in
-    joined (joined (c.resume.ensures.any_moment k) converted) (c.finish.ensures.any_moment k)
+    joined (joined (c.resume.ensures.any_moment k) (growing_safe g.C.Conversion.model g.D.Disk.model g.job (c.convert_rest.ensures.any_moment k))) (c.finish.ensures.any_moment k)
 
 pub returns-in_err-convert_rest-clause-delivered : goal.returns-in_err-convert_rest-clause-delivered
 returns-in_err-convert_rest-clause-delivered g c = λ k.
     let continues = rw c.in-Some.is at (c.in_ok-offsets.ensures.continues k) in
-    let size : g.I.Input.model.size c.args.input.now ≡ length g.job.input = g.met.I.Input.sized k.1 c.args.input.now ∙ ap length (c.requires.1.1.1.1.1.0 k.1) in
-    let within : c.in-Some.offsets.taken ≤ length g.job.input = (let both = rw c.in-Some.is at (c.in_ok-offsets.ensures.live k) in both.0.within) in
-    λ taken written frozen ft fw e. omega (arith, (continues taken written frozen ft fw e).0, c.convert_rest.ensures.delivered, size, within)
+    let live = rw c.in-Some.is at (c.in_ok-offsets.ensures.live k) in
+    reads_rest _ c.in-Some.offsets _ _ (g.met.I.Input.sized k.1 c.args.input.now ∙ ap length (c.requires.1.1.1.1.1.0 k.1)) live.0.within continues c.convert_rest.ensures.reads.delivered
 
 pub returns-in_err-finish-clause-delivered : goal.returns-in_err-finish-clause-delivered
 returns-in_err-finish-clause-delivered g c = λ k.
     let continues = rw c.in-Some.is at (c.in_ok-offsets.ensures.continues k) in
-    let size : g.I.Input.model.size c.args.input.now ≡ length g.job.input = g.met.I.Input.sized k.1 c.args.input.now ∙ ap length (c.requires.1.1.1.1.1.0 k.1) in
-    let within : c.in-Some.offsets.taken ≤ length g.job.input = (let both = rw c.in-Some.is at (c.in_ok-offsets.ensures.live k) in both.0.within) in
-    λ taken written frozen ft fw e. omega (arith, (continues taken written frozen ft fw e).0, c.convert_rest.ensures.delivered, size, within)
+    let live = rw c.in-Some.is at (c.in_ok-offsets.ensures.live k) in
+    reads_rest _ c.in-Some.offsets _ _ (g.met.I.Input.sized k.1 c.args.input.now ∙ ap length (c.requires.1.1.1.1.1.0 k.1)) live.0.within continues c.convert_rest.ensures.reads.delivered
 
 pub returns-clause-delivered : goal.returns-clause-delivered
 returns-clause-delivered g c = λ k.
     let continues = rw c.in-Some.is at (c.in_ok-offsets.ensures.continues k) in
-    let size : g.I.Input.model.size c.args.input.now ≡ length g.job.input = g.met.I.Input.sized k.1 c.args.input.now ∙ ap length (c.requires.1.1.1.1.1.0 k.1) in
-    let within : c.in-Some.offsets.taken ≤ length g.job.input = (let both = rw c.in-Some.is at (c.in_ok-offsets.ensures.live k) in both.0.within) in
-    λ taken written frozen ft fw e. omega (arith, (continues taken written frozen ft fw e).0, c.convert_rest.ensures.delivered, size, within)
+    let live = rw c.in-Some.is at (c.in_ok-offsets.ensures.live k) in
+    reads_rest _ c.in-Some.offsets _ _ (g.met.I.Input.sized k.1 c.args.input.now ∙ ap length (c.requires.1.1.1.1.1.0 k.1)) live.0.within continues c.convert_rest.ensures.reads.delivered

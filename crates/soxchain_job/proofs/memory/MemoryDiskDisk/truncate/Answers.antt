@@ -1,8 +1,8 @@
-use Rattle.std.proofs.Common.{◌≡◌, ◌∙◌, ℕ, List, Some, ap, refl, rules, sym, subst, take}
+use Rattle.std.proofs.Common.{◌≡◌, ◌∙◌, ℕ, List, Some, ap, refl, rules, take}
 use Rattle.soxchain_job.specs.Disk.{Truncated}
-use Rattle.soxchain_job.specs.Image.{Image, bytes_at, put}
+use Rattle.soxchain_job.specs.Image.{bytes_at, put}
 use Rattle.soxchain_job.specs.History.{image_of}
-use Rattle.soxchain_job.proofs.MemoryHistory.{elapses_to, put_truncated, same_truncated}
+use Rattle.soxchain_job.proofs.MemoryHistory.{elapses_to, put_truncated, same_follows, same_truncated}
 use Rattle.soxchain_job.proofs.memory.MemoryDiskDisk.truncate.Goals as goal
 
 pub returns-clause-time : goal.returns-clause-time
@@ -11,11 +11,8 @@ returns-clause-time c = λ k.
     elapses_to c.args.self.now _ history.0 history.1 history.2 refl
 
 pub returns-in_err-replace-clause-crash : goal.returns-in_err-replace-clause-crash
-returns-in_err-replace-clause-crash c = λ k i now. (
-  image_of c.args.self.now.files,
-  refl,
-  subst (λ (j : Image). Truncated c.args.name c.args.len (image_of c.args.self.now.files) j) (sym (now ∙ c.in_err-replace.ensures.err)) (same_truncated c.args.name c.args.len (image_of c.args.self.now.files)),
-)
+returns-in_err-replace-clause-crash c = λ k i now.
+    same_follows (Truncated c.args.name c.args.len) (same_truncated c.args.name c.args.len) (image_of c.args.self.now.files) i (now ∙ c.in_err-replace.ensures.err)
 
 pub returns-clause-crash : goal.returns-clause-crash
 returns-clause-crash c =
@@ -28,15 +25,9 @@ returns-clause-crash c =
     )
 
 pub returns-in_err-front-clause-crash : goal.returns-in_err-front-clause-crash
-returns-in_err-front-clause-crash c = λ k i now. (
-  image_of c.args.self.now.files,
-  refl,
-  subst (λ (j : Image). Truncated c.args.name c.args.len (image_of c.args.self.now.files) j) (sym now) (same_truncated c.args.name c.args.len (image_of c.args.self.now.files)),
-)
+returns-in_err-front-clause-crash c = λ k i now.
+    same_follows (Truncated c.args.name c.args.len) (same_truncated c.args.name c.args.len) (image_of c.args.self.now.files) i now
 
 pub returns-in_err-next-clause-crash : goal.returns-in_err-next-clause-crash
-returns-in_err-next-clause-crash c = λ k i now. (
-  image_of c.args.self.now.files,
-  refl,
-  subst (λ (j : Image). Truncated c.args.name c.args.len (image_of c.args.self.now.files) j) (sym now) (same_truncated c.args.name c.args.len (image_of c.args.self.now.files)),
-)
+returns-in_err-next-clause-crash c = λ k i now.
+    same_follows (Truncated c.args.name c.args.len) (same_truncated c.args.name c.args.len) (image_of c.args.self.now.files) i now
