@@ -8,7 +8,6 @@ use Rattle.fx_frame_base.specs.Stage.{Acts}
 use Rattle.fx_chain_flow.specs.Parts.{AllNew, Parts}
 use Rattle.fx_chain_flow.specs.Composed.{Whole, due_of, enough_for}
 use Rattle.fx_chain_flow.specs.Steps.{IsDone, IsHungry, rest_of, wholes_of}
-use Rattle.fx_sound.specs.declared.head.Head.{Head}
 use Rattle.fx_sound.specs.declared.head.Kind.{Kind}
 use Rattle.fx_sound.specs.declared.head.Kind.TheVariants.{Wav, Au}
 use Rattle.fx_frame_base.specs.declared.stage.TheConstants.{MAX_FRAMES}
@@ -25,6 +24,7 @@ use Rattle.fx_chain_run.specs.Due.{clips_due, dues}
 use Rattle.fx_chain_run.specs.FrameWriter.{WroteAll, WroteFront, coded, coded_clips}
 use Rattle.fx_chain_run.specs.Run.{RanToEnd}
 use Rattle.fx_sound.specs.Container.{ReadAllDelivered}
+pub use Rattle.fx_sound.specs.Container.{start_of}
 use Rattle.fx_chain_run.specs.Through.{Reached}
 
 -- the report that comes with a fault
@@ -76,10 +76,6 @@ no_report = record { frames_in = 0; frames_out = 0; bytes_out = 0; moves = 0; cl
 -- counts of at most 32 effects, and 0 after the last
 abbrev pub clip_counts_of : List ℕ → List ℕ
 clip_counts_of counts = counts ++ replicate (32 - length counts) 0
-
--- nothing of the sound after a head was read yet
-abbrev pub start_of : Head → Reading
-start_of h = record { coding = h.coding; channels = h.channels; left = h.announced; frames = 0; missing = 0; stray = 0; over = false }
 
 -- the streamed head of what is written
 abbrev pub head_for : Target → List ℕ

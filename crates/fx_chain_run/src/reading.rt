@@ -1,6 +1,7 @@
 //! The next frame of a sound whose bytes may come slowly.
 ghost use Rattle.std.specs.Prelude.{◌≡◌, ◌≢◌, ◌+◌, ◌<◌, ◌≤◌, [], false, true, Err, IfNone, IfOk, IfSome, MatchBool, OnErr, OnOk, length};
-ghost use Rattle.fx_chain_run.specs.NextFrame.{AsksNext, CountsCause, CutShort, FollowsMaximum, MetEnd, PassesPending, TookFrame, TookNone};
+ghost use Rattle.fx_sound.specs.NextFrame.{CutShort, FollowsMaximum, MetEnd, TookFrame};
+ghost use Rattle.fx_chain_run.specs.NextFrame.{AsksNext, CountsCause, PassesPending, TookNone};
 ghost use Rattle.fx_chain_run.specs.Run.{run_read_failed, is_write_failed};
 ghost use Rattle.fx_frame_base.specs.Io.{CountsFailure, saturated};
 ghost use Rattle.fx_sound.specs.Known.{IfKnown};

@@ -6,6 +6,7 @@ pub mod FrameBytes
 pub mod HeadLemmas
 pub mod Held
 pub mod ManyBytes
+pub mod NextFrames
 pub mod RunLaws
 pub mod Sending
 pub mod Sounds

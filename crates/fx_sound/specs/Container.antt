@@ -1,9 +1,10 @@
 -- A sound in a list of bytes, on the whole list (RIFF WAVE, Sun AU, this project's profile).
-use Rattle.std.specs.Prelude.{◌≡◌, ℕ, ◌+◌, ◌-◌, ◌*◌, ◌/◌, ◌%◌, ◌^◌, ◌<◌, ◌≤◌, true, List, length, drop, map, Option, Some, Result, Ok, Err}
+use Rattle.std.specs.Prelude.{◌≡◌, ℕ, ◌+◌, ◌-◌, ◌*◌, ◌/◌, ◌%◌, ◌^◌, ◌<◌, ◌≤◌, false, true, List, length, drop, map, Option, Some, Result, Ok, Err}
 use Rattle.fx_frame_base.specs.declared.coding.Coding.{Coding}
 use Rattle.fx_frame_base.specs.Frame.{Samples}
 use Rattle.fx_sound.specs.FrameCoding.{frame_size, coded_samples}
 use Rattle.fx_frame_base.specs.Lists.{pieces}
+use Rattle.fx_sound.specs.declared.head.Head.{Head}
 use Rattle.fx_sound.specs.declared.head.Kind.{Kind}
 use Rattle.fx_sound.specs.declared.head.HeadFault.{HeadFault}
 use Rattle.fx_sound.specs.declared.fields.Format.{Format}
@@ -14,6 +15,10 @@ use Rattle.fx_sound.specs.Source.{Held}
 -- the first n frames
 abbrev pub first_frames : Coding → ℕ → ℕ → List ℕ → List Samples
 first_frames coding channels n sound = map (coded_samples coding channels) (pieces (frame_size coding channels) n sound)
+
+-- these samples are the frames that the bytes are, for any number of channels that divides their count
+abbrev pub DecodesFrames : Coding → ℕ → List ℕ → Samples → Type 0
+DecodesFrames coding count bytes samples = (channels n : ℕ) → count ≡ n * channels → pieces channels n samples ≡ first_frames coding channels n bytes
 
 -- the whole frames of a sound
 abbrev pub frames_of_sound : Coding → ℕ → List ℕ → List Samples
@@ -47,6 +52,10 @@ with_frames bytes (Ok s) = Ok (outcome_of s (within_sound s.fields.announced (dr
 -- the sound in these bytes, or the first fault of its head
 abbrev pub container : Option Kind → List ℕ → Result Outcome HeadFault
 container expected bytes = with_frames bytes (head_of expected bytes)
+
+-- nothing of the sound after a head was read yet
+abbrev pub start_of : Head → Reading
+start_of h = record { coding = h.coding; channels = h.channels; left = h.announced; frames = 0; missing = 0; stray = 0; over = false }
 
 -- the progress after n more frames
 abbrev pub after_frames : Reading → ℕ → Reading

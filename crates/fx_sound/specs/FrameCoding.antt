@@ -1,5 +1,5 @@
 -- Frames as bytes: the samples one after the other, channel by channel (RIFF WAVE, Sun AU).
-use Rattle.std.specs.Prelude.{ℕ, ℤ, pos, ◌*◌, List, map, count_by}
+use Rattle.std.specs.Prelude.{◌≡◌, ℕ, ℤ, pos, ◌*◌, List, length, map, count_by, sum_by}
 use Rattle.std.specs.List.{flat_map}
 use Rattle.fx_frame_base.specs.declared.coding.Coding.{Coding}
 use Rattle.fx_frame_base.specs.declared.coding.Coding.TheVariants.{U8, S8, S16Le, S16Be, S24Le, S24Be, S32Le, S32Be}
@@ -21,6 +21,14 @@ bytes_of coding samples = flat_map (written_sample coding) samples
 -- how many samples of a frame are clipped on writing
 abbrev pub clips_of : Coding → List ℤ → ℕ
 clips_of coding samples = count_by (clips_written coding) samples
+
+-- these bytes are those of the frames that the samples are, for any number of channels that divides their count
+abbrev pub EncodesFrames : Coding → List ℤ → List ℕ → Type 0
+EncodesFrames coding samples bytes = (channels n : ℕ) → length samples ≡ n * channels → bytes ≡ flat_map (bytes_of coding) (pieces channels n samples)
+
+-- so many samples of these frames are clipped on writing
+abbrev pub CountsFrameClips : Coding → List ℤ → ℕ → Type 0
+CountsFrameClips coding samples clips = (channels n : ℕ) → length samples ≡ n * channels → clips ≡ sum_by (clips_of coding) (pieces channels n samples)
 
 -- the largest sample that is not clipped on writing
 abbrev pub largest_unclipped : Coding → ℤ

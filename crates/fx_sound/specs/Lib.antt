@@ -8,6 +8,7 @@ pub mod Head
 pub mod HeadFields
 pub mod Kind
 pub mod Known
+pub mod NextFrame
 pub mod Output
 pub mod Reads
 pub mod Runs

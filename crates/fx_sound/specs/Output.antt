@@ -1,5 +1,5 @@
 -- What an output has written, and what is pending.
-use Rattle.std.specs.Prelude.{◌≡◌, ℕ, ◌+◌, ◌≤◌, List, ◌++◌, length, take, drop, Option}
+use Rattle.std.specs.Prelude.{◌≡◌, ℕ, ◌+◌, ◌≤◌, IsOk, List, ◌++◌, length, take, drop, Option, Result}
 use Rattle.std.specs.Io.KnownBytes.{Appends}
 
 -- pending bytes, how many were written, and how many more there is space for
@@ -17,6 +17,10 @@ pub record Sent (first now : Option (List ℕ)) (out : Pending) (all : List ℕ)
 -- what is to be sent is unchanged
 abbrev pub SendsOn : Option (List ℕ) → Option (List ℕ) → Pending → Pending → Type 0
 SendsOn now new_now out new_out = (first : Option (List ℕ)) (all : List ℕ) → Sent first now out all → Sent first new_now new_out all
+
+-- a call returned, and did nothing to the writer and the pending bytes
+abbrev pub SendsNothing : {X E W : Type 0} → Result X E → W → W → Pending → Pending → Type 0
+SendsNothing result writer new_writer out new_out = IsOk result × (new_writer ≡ writer) × (new_out ≡ out)
 
 -- these bytes are appended to what is to be sent
 abbrev pub SendsMore : Option (List ℕ) → Option (List ℕ) → Pending → Pending → List ℕ → Type 0

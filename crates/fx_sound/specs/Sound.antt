@@ -1,6 +1,7 @@
 -- The sound that follows a head (RIFF WAVE, Sun AU, this project's profile).
-use Rattle.std.specs.Prelude.{◌≡◌, ℕ, ◌+◌, ◌-◌, ◌*◌, ◌^◌, ◌<◌, ◌≤◌, min, Bool, true, List, length, take, drop, Option, None, Some}
+use Rattle.std.specs.Prelude.{◌≡◌, ℕ, ◌+◌, ◌-◌, ◌*◌, ◌^◌, ◌<◌, ◌≤◌, min, Bool, false, true, List, length, take, drop, Option, None, Some}
 use Rattle.fx_frame_base.specs.declared.coding.Coding.{Coding}
+use Rattle.fx_frame_base.specs.declared.stage.TheConstants.{MAX_FRAMES}
 use Rattle.fx_frame_base.specs.Frame.{Samples}
 use Rattle.fx_sound.specs.FrameCoding.{frame_size, coded_samples}
 
@@ -64,3 +65,7 @@ pub record AreHeld (p : Reading) (bytes : List ℕ) (n : ℕ) : Type 0 where
   pub announced : n * size_of p ≤ at_most_announced p.left (n * size_of p)
   pub bound : p.frames + n ≤ 2 ^ 40
   pub begun : p.over ≡ true → n ≡ 0
+
+-- no frame that may be read follows the first n, among `held` bytes of a sound that goes on
+abbrev pub HoldsNoMore : Reading → ℕ → ℕ → Type 0
+HoldsNoMore p held n = p.over ≡ false → p.frames + n < MAX_FRAMES → at_most_announced p.left held < (n + 1) * size_of p

@@ -1,6 +1,7 @@
 -- What a source holds, and the bytes that are still to come from it.
-use Rattle.std.specs.Prelude.{◌≡◌, ℕ, ◌+◌, ◌-◌, ◌^◌, ◌<◌, ◌≤◌, Bool, List, ◌++◌, drop, length, take, Option, Some}
+use Rattle.std.specs.Prelude.{◌≡◌, ℕ, ◌+◌, ◌-◌, ◌^◌, ◌<◌, ◌≤◌, Bool, List, ◌++◌, MatchBool, drop, length, take, Option, Some}
 use Rattle.std.specs.Io.KnownBytes.{prepend_known}
+use Rattle.fx_frame_base.specs.Io.{ByteReader, saturated}
 use Rattle.fx_frame_base.specs.Moments.{Moment, came_short}
 use Rattle.fx_sound.specs.Known.{IfKnown}
 
@@ -46,6 +47,38 @@ pub record FallsShort {R : Type 0} (delivered : R → ℕ) (old : Held R) (new :
   pub came : ℕ
   pub bound : came < n
   pub tells : Tells delivered old new came
+
+-- So many of the bytes to come were taken, where at most `maximum` were asked for.
+pub record TookBytes {R : Type 0} (device : ByteReader R) (old new : Held R) (maximum n : ℕ) : Type 0 where
+  -- no more than that
+  pub count : n ≤ maximum
+  -- they are the first of what was to come, and the others follow
+  pub bytes : IfKnown (to_come device.rest old) (λ bytes. (n ≤ length bytes) × (to_come device.rest new ≡ Some (drop n bytes)))
+  -- where they are fewer, no more were to come
+  pub all : n < maximum → IfKnown (to_come device.rest old) (λ bytes. n ≡ length bytes)
+  -- no others were taken
+  pub delivered : Takes device.delivered old new n
+
+-- The first n places of a buffer were filled with the next bytes.
+pub record FilledFront {R : Type 0} (rest : R → Option (List ℕ)) (old : Held R) (out new_out : List ℕ) (n : ℕ) : Type 0 where
+  -- they are the bytes to come
+  pub known : IfKnown (to_come rest old) (λ bytes. take n new_out ≡ take n bytes)
+  -- the other places are as before
+  pub rest_unchanged : drop n new_out ≡ drop n out
+
+-- A read failed before n bytes had come.
+pub record FailedBefore {R : Type 0} (device : ByteReader R) (old new : Held R) (n : ℕ) : Type 0 where
+  -- fewer were there or came
+  pub short : FallsShort device.delivered old new.reader n
+  -- none of them was taken
+  pub untaken : Takes device.delivered old new 0
+  -- all of them are held
+  pub front : IfKnown (to_come device.rest old) (HoldsFront new)
+
+-- the count of failed reads rises where one failed, and not otherwise
+abbrev pub CountsReadFailure : {R : Type 0} → ByteReader R → Bool → Held R → Held R → Type 0
+CountsReadFailure device failed old new =
+    MatchBool failed (device.failures new.reader ≡ saturated (device.failures old.reader + 1)) (device.failures new.reader ≡ device.failures old.reader)
 
 -- The reader was asked once, when the writer had taken these bytes: what it delivered came after the bytes that were held.
 pub record AsksBeside {R : Type 0} (asked : R → R → Moment → Type 0) (old new : Held R) (taken : Option (List ℕ)) : Type 0 where

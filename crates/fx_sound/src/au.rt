@@ -1,12 +1,11 @@
 //! Reading the head of a Sun AU sound.
 
-ghost use Rattle.std.specs.Prelude.{◌≡◌, ◌+◌, ◌-◌, ◌^◌, ◌<◌, ◌≤◌, Err, false, IsTrue, IfOk, IfErr, IfSome, MatchBool, length};
-ghost use Rattle.fx_frame_base.specs.Io.{saturated};
+ghost use Rattle.std.specs.Prelude.{◌≡◌, ◌+◌, ◌-◌, ◌^◌, ◌<◌, ◌≤◌, Err, false, IsTrue, IfOk, IfErr, IfSome, length};
 ghost use Rattle.fx_sound.specs.Au.{word_at, au_coding, au_fields, after_snd};
 ghost use Rattle.fx_sound.specs.Kind.{is_of_au};
 ghost use Rattle.fx_sound.specs.HeadFields.{IsProper, is_read_failure};
 ghost use Rattle.fx_sound.specs.Reads.{Reads, Refuses, Fails, StandsIfKnown};
-ghost use Rattle.fx_sound.specs.Source.{Takes};
+ghost use Rattle.fx_sound.specs.Source.{CountsReadFailure, Takes};
 
 use super::fields::{AU_UNKNOWN, Format, HeadFields};
 use super::head::{HeadFault, Kind, MAX_SOUND_OFFSET};
@@ -88,9 +87,7 @@ pub(crate) fn read_au<R: ByteIn>(source: &mut Source<R>) -> Result<HeadFields, H
     ensures fault { IfErr result (Refuses R.reads.rest after_snd source.old) }
     ensures cut { IfErr result (Fails R.reads.rest R.reads.delivered after_snd source.old source.new) }
     ensures stands { IfErr result (StandsIfKnown R.reads.rest R.reads.delivered after_snd (2 ^ 24 - 4) source.old source.new) }
-    ensures failures { MatchBool (is_read_failure result)
-        (R.reads.failures source.new.reader ≡ saturated (R.reads.failures source.old.reader + 1))
-        (R.reads.failures source.new.reader ≡ R.reads.failures source.old.reader) }
+    ensures failures { CountsReadFailure R.reads (is_read_failure result) source.old source.new }
 {
     let mut words = [0; 20];
     let Ok(got) = source.fill(&mut words) else {

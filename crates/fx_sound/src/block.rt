@@ -1,10 +1,9 @@
 //! Frames of a sound that a source holds already, many at a time.
 
-ghost use Rattle.std.specs.Prelude.{◌≡◌, ◌≤◌, ◌<◌, ◌+◌, ◌*◌, false, length, drop};
-ghost use Rattle.fx_frame_base.specs.declared.stage.TheConstants.{MAX_FRAMES};
+ghost use Rattle.std.specs.Prelude.{◌≡◌, ◌≤◌, ◌<◌, ◌*◌, length, drop};
 ghost use Rattle.fx_frame_base.specs.Lists.{pieces};
 ghost use Rattle.fx_sound.specs.Container.{after_frames, first_frames};
-ghost use Rattle.fx_sound.specs.Sound.{AreHeld, at_most_announced, size_of};
+ghost use Rattle.fx_sound.specs.Sound.{AreHeld, HoldsNoMore, size_of};
 
 use super::progress::Progress;
 use crate::Source;
@@ -16,7 +15,7 @@ impl Progress {
     pub fn held_frames<R>(&self, source: &Source<R>, maximum: usize) -> usize
         ensures held { AreHeld self.now source.now.bytes result }
         ensures maximum { result ≤ maximum }
-        ensures all { result < maximum → self.now.over ≡ false → self.now.frames + result < MAX_FRAMES → at_most_announced self.now.left (length source.now.bytes) < (result + 1) * size_of self.now }
+        ensures all { result < maximum → HoldsNoMore self.now (length source.now.bytes) result }
     {
         self.frames_in(source.held()).min(maximum)
     }
@@ -25,7 +24,8 @@ impl Progress {
     pub fn decode_held<R>(&self, source: &Source<R>, count: usize, samples: &mut [i32])
         requires held { AreHeld self.now source.now.bytes count }
         requires free { length samples.old ≡ count * self.now.channels }
-        ensures { pieces self.now.channels count samples.new ≡ first_frames self.now.coding self.now.channels count source.now.bytes }
+        ensures { pieces self.now.channels count samples.new
+            ≡ first_frames self.now.coding self.now.channels count source.now.bytes }
     {
         let bytes = source.peek(count * self.frame_size());
         decode_into(self.coding(), bytes, samples);

@@ -1,9 +1,8 @@
 //! Samples of many frames as bytes.
-ghost use Rattle.std.specs.Prelude.{◌≡◌, ◌*◌, ℕ, length, map, sum_by, ◌≤◌, ◌^◌};
-ghost use Rattle.std.specs.List.{flat_map};
+ghost use Rattle.std.specs.Prelude.{◌≡◌, ◌*◌, length, ◌≤◌, ◌^◌};
 ghost use Rattle.fx_frame_base.specs.Coding.{width_of};
-ghost use Rattle.fx_sound.specs.FrameCoding.{bytes_of, clips_of, frame_size, coded_samples, largest_unclipped};
-ghost use Rattle.fx_frame_base.specs.Lists.{pieces};
+ghost use Rattle.fx_sound.specs.Container.{DecodesFrames};
+ghost use Rattle.fx_sound.specs.FrameCoding.{CountsFrameClips, EncodesFrames, bytes_of, clips_of, coded_samples, largest_unclipped};
 
 use crate::fours::{read_four, write_four};
 use fx_frame::Coding;
@@ -61,7 +60,7 @@ fn decode_each(coding: Coding, bytes: &[u8], samples: &mut [i32])
 pub fn decode_into(coding: Coding, bytes: &[u8], samples: &mut [i32])
     requires { length bytes.now ≡ length samples.old * width_of coding }
     ensures samples { samples.new ≡ coded_samples coding (length samples.old) bytes.now }
-    ensures frames { (channels n : ℕ) → length samples.old ≡ n * channels → pieces channels n samples.new ≡ map (coded_samples coding channels) (pieces (frame_size coding channels) n bytes.now) }
+    ensures frames { DecodesFrames coding (length samples.old) bytes.now samples.new }
 {
     decode_each(coding, bytes, samples)
 }
@@ -192,8 +191,8 @@ pub fn encode_into(coding: Coding, samples: &[i32], out: &mut [u8]) -> u64
     requires { length out.old ≡ length samples.now * width_of coding }
     ensures bytes { out.new ≡ bytes_of coding samples.now }
     ensures clips { result ≡ clips_of coding samples.now }
-    ensures frames { (channels n : ℕ) → length samples.now ≡ n * channels → out.new ≡ flat_map (bytes_of coding) (pieces channels n samples.now) }
-    ensures frame_clips { (channels n : ℕ) → length samples.now ≡ n * channels → result ≡ sum_by (clips_of coding) (pieces channels n samples.now) }
+    ensures frames { EncodesFrames coding samples.now out.new }
+    ensures frame_clips { CountsFrameClips coding samples.now result }
 {
     encode_each(coding, samples, out)
 }

@@ -3,7 +3,7 @@
 ghost use Rattle.std.specs.Prelude.{◌≡◌, ◌+◌, ◌-◌, ◌*◌, ◌<◌, ◌≤◌, ◌^◌, ◌++◌, true, false, [], IsOk, OnOk, OnErr, IfOk, length};
 ghost use Rattle.fx_frame_base.specs.Io.{CountsFailure};
 ghost use Rattle.fx_sound.specs.FrameCoding.{frame_size, bytes_of, clips_of};
-ghost use Rattle.fx_sound.specs.Output.{SendsOn, SendsMore, SendsPart, bytes_put};
+ghost use Rattle.fx_sound.specs.Output.{SendsMore, SendsNothing, SendsOn, SendsPart, bytes_put};
 
 use crate::buffer::BUFFER_SIZE;
 use crate::bulk::encode_into;
@@ -115,7 +115,7 @@ impl Output {
         ensures free { OnOk result (size ≤ self.new.free) }
         ensures empty { OnOk result (self.old.free < size → self.new.bytes ≡ []) }
         ensures failures { CountsFailure (W.writes.failures writer.old) (W.writes.failures writer.new) result }
-        ensures waits { size ≤ self.old.free → IsOk result × (writer.new ≡ writer.old) × (self.new ≡ self.old) }
+        ensures waits { size ≤ self.old.free → SendsNothing result writer.old writer.new self.old self.new }
     {
         if size <= BUFFER_SIZE - self.end {
             return Ok(());
@@ -126,10 +126,11 @@ impl Output {
     /// Passes all pending bytes to the writer where less than half of the buffer is free and bytes have gone to it before, so
     /// that a whole buffer of frames fits at once. Where a frame of `size` bytes does not fit, that frame makes the space.
     pub fn make_way<W: ByteOut>(&mut self, writer: &mut W, size: usize) -> Result<(), Failed>
-        ensures early { self.old.written ≡ 0 → IsOk result × (writer.new ≡ writer.old) × (self.new ≡ self.old) }
-        ensures roomy { BUFFER_SIZE ≤ 2 * self.old.free → IsOk result × (writer.new ≡ writer.old) × (self.new ≡ self.old) }
-        ensures full { self.old.free < size → IsOk result × (writer.new ≡ writer.old) × (self.new ≡ self.old) }
-        ensures way { 0 < self.old.written → 2 * self.old.free < BUFFER_SIZE → size ≤ self.old.free → OnOk result (self.new.bytes ≡ []) }
+        ensures early { self.old.written ≡ 0 → SendsNothing result writer.old writer.new self.old self.new }
+        ensures roomy { BUFFER_SIZE ≤ 2 * self.old.free → SendsNothing result writer.old writer.new self.old self.new }
+        ensures full { self.old.free < size → SendsNothing result writer.old writer.new self.old self.new }
+        ensures way { 0 < self.old.written → 2 * self.old.free < BUFFER_SIZE → size ≤ self.old.free
+            → OnOk result (self.new.bytes ≡ []) }
         ensures sent { SendsOn (W.writes.taken writer.old) (W.writes.taken writer.new) self.old self.new }
         ensures count { bytes_put self.new ≡ bytes_put self.old }
         ensures failures { CountsFailure (W.writes.failures writer.old) (W.writes.failures writer.new) result }
@@ -179,12 +180,15 @@ impl Output {
     pub fn push<W: ByteOut>(&mut self, writer: &mut W, bytes: &[u8]) -> Result<(), Failed>
         requires piece { length bytes.now ≤ BUFFER_SIZE }
         requires count { bytes_put self.old + length bytes.now < 2 ^ 64 }
-        ensures sent { OnOk result (SendsMore (W.writes.taken writer.old) (W.writes.taken writer.new) self.old self.new bytes.now) }
-        ensures sent_err { OnErr result (SendsOn (W.writes.taken writer.old) (W.writes.taken writer.new) self.old self.new) }
+        ensures sent { OnOk result (SendsMore (W.writes.taken writer.old) (W.writes.taken writer.new)
+            self.old self.new bytes.now) }
+        ensures sent_err { OnErr result (SendsOn (W.writes.taken writer.old) (W.writes.taken writer.new)
+            self.old self.new) }
         ensures edge { OnOk result (self.old.free < length bytes.now → self.new.bytes ≡ bytes.now) }
         ensures count { OnOk result (bytes_put self.new ≡ bytes_put self.old + length bytes.now) }
         ensures failures { CountsFailure (W.writes.failures writer.old) (W.writes.failures writer.new) result }
-        ensures waits { length bytes.now ≤ self.old.free → IsOk result × (writer.new ≡ writer.old) × (self.new.free ≡ self.old.free - length bytes.now) }
+        ensures waits { length bytes.now ≤ self.old.free
+            → IsOk result × (writer.new ≡ writer.old) × (self.new.free ≡ self.old.free - length bytes.now) }
     {
         self.make_space(writer, bytes.len())?;
         self.put(bytes);
@@ -202,16 +206,18 @@ impl Output {
         coding: Coding,
     ) -> Result<u64, Failed>
         requires { bytes_put self.old + 64 < 2 ^ 64 }
-        ensures sent { OnOk result (SendsMore (W.writes.taken writer.old) (W.writes.taken writer.new) self.old self.new (bytes_of coding frame.now)) }
+        ensures sent { OnOk result (SendsMore (W.writes.taken writer.old) (W.writes.taken writer.new)
+            self.old self.new (bytes_of coding frame.now)) }
         ensures maximum { frame_size coding (length frame.now) ≤ 64 }
         ensures clips { IfOk result (λ n. n ≡ clips_of coding frame.now) }
-        ensures sent_err { OnErr result (SendsPart (W.writes.taken writer.old) (W.writes.taken writer.new) self.old self.new (bytes_of coding frame.now)) }
+        ensures sent_err { OnErr result (SendsPart (W.writes.taken writer.old) (W.writes.taken writer.new)
+            self.old self.new (bytes_of coding frame.now)) }
         ensures edge { OnOk result (self.old.free < frame_size coding (length frame.now)
             → length self.new.bytes + self.old.free ≡ frame_size coding (length frame.now)) }
         ensures count { OnOk result (bytes_put self.new ≡ bytes_put self.old + frame_size coding (length frame.now)) }
         ensures failures { CountsFailure (W.writes.failures writer.old) (W.writes.failures writer.new) result }
-        ensures waits { frame_size coding (length frame.now) ≤ self.old.free
-            → IsOk result × (writer.new ≡ writer.old) × (self.new.free ≡ self.old.free - frame_size coding (length frame.now)) }
+        ensures waits { frame_size coding (length frame.now) ≤ self.old.free → IsOk result × (writer.new ≡ writer.old)
+            × (self.new.free ≡ self.old.free - frame_size coding (length frame.now)) }
     {
         if frame.channels() * coding.width() > BUFFER_SIZE - self.end {
             return self.push_over_edge(writer, frame, coding);

@@ -1,11 +1,10 @@
 //! The frames of a sound, one after the other.
 
-ghost use Rattle.std.specs.Prelude.{◌≡◌, ◌≤◌, ◌<◌, ◌+◌, ◌-◌, ◌*◌, drop, false, true, None, Some, IfOk, IfSome, IfNone, OnErr, OnSome, MatchBool, Ok, Err, length, min};
-ghost use Rattle.fx_frame_base.specs.Io.{saturated};
-ghost use Rattle.fx_sound.specs.Source.{to_come, FallsShort, HoldsWhatCame, Stays, Takes};
-ghost use Rattle.fx_sound.specs.Known.{IfKnown};
-ghost use Rattle.fx_sound.specs.Sound.{size_of, within_sound, at_most_announced, after_frame, sound_after_end, TakesFrame, EndsSound};
-ghost use Rattle.fx_sound.specs.Container.{after_frames};
+ghost use Rattle.std.specs.Prelude.{◌≡◌, ◌≤◌, ◌<◌, ◌+◌, ◌*◌, false, true, None, IfOk, IfSome, IfNone, OnErr, Ok, Err, length};
+ghost use Rattle.fx_sound.specs.Source.{CountsReadFailure, Stays};
+ghost use Rattle.fx_sound.specs.NextFrame.{CutShort, FollowsMaximum, HoldsRest, MetEnd, PassesBytes, ReachesEnd, TookFrame};
+ghost use Rattle.fx_sound.specs.Sound.{HoldsNoMore, size_of, at_most_announced, after_frame, sound_after_end};
+ghost use Rattle.fx_sound.specs.Container.{after_frames, start_of};
 ghost use Rattle.fx_sound.specs.Fault.{is_read_failed};
 
 use crate::frame_coding::decoded;
@@ -61,7 +60,7 @@ impl Model for Progress {
 impl Progress {
     /// Nothing of the sound after this head is read yet.
     pub fn new(head: &Head) -> Progress
-        ensures { result ≡ record { coding = head.now.coding; channels = head.now.channels; left = head.now.announced; frames = 0; missing = 0; stray = 0; over = false } }
+        ensures { result ≡ start_of head.now }
     {
         Progress {
             coding: head.coding,
@@ -141,7 +140,7 @@ impl Progress {
         ensures announced { result * size_of self.now ≤ at_most_announced self.now.left (result * size_of self.now) }
         ensures bound { self.now.frames + result ≤ MAX_FRAMES }
         ensures begun { self.now.over ≡ true → result ≡ 0 }
-        ensures all { self.now.over ≡ false → self.now.frames + result < MAX_FRAMES → at_most_announced self.now.left held < (result + 1) * size_of self.now }
+        ensures all { HoldsNoMore self.now held result }
     {
         if self.is_over {
             return 0;
@@ -204,37 +203,25 @@ pub fn next_frame<R: ByteIn>(
     source: &mut Source<R>,
     progress: &mut Progress,
 ) -> Result<Option<Frame>, ReadFault>
-    // A frame.
-    ensures frame { IfOk result (λ o. IfSome o (λ f. IfKnown (to_come R.reads.rest source.old) (λ bytes.
-        TakesFrame progress.old bytes f (to_come R.reads.rest source.new)))) }
-    ensures channels { IfOk result (λ o. IfSome o (λ f. length f ≡ progress.old.channels)) }
-    ensures delivered { IfOk result (λ o. OnSome o (Takes R.reads.delivered source.old source.new (size_of progress.old))) }
-    ensures counted { IfOk result (λ o. OnSome o (progress.new ≡ after_frame progress.old)) }
-    ensures below { IfOk result (λ o. OnSome o ((progress.old.over ≡ false) × (progress.old.frames < MAX_FRAMES))) }
-
-    // The end, and from then on.
-    ensures end { IfOk result (λ o. IfNone o (progress.old.over ≡ false → IfKnown (to_come R.reads.rest source.old) (λ bytes.
-        EndsSound progress.old bytes progress.new))) }
-    ensures left { IfOk result (λ o. IfNone o (progress.old.over ≡ false → IfKnown (to_come R.reads.rest source.old) (λ bytes.
-        to_come R.reads.rest source.new ≡ Some (drop (length (within_sound progress.old.left bytes)) bytes)))) }
-    ensures over { IfOk result (λ o. IfNone o ((progress.new.over ≡ true) × (progress.new.frames ≡ progress.old.frames))) }
-    ensures stays { progress.old.over ≡ true → (result ≡ Ok None) × (progress.new ≡ progress.old) × (source.new ≡ source.old) }
+    // A frame, or the end, and from then on.
+    ensures frame { IfOk result (λ o. IfSome o (TookFrame R.reads source.old source.new progress.old progress.new)) }
+    ensures end { IfOk result (λ o. IfNone o (progress.old.over ≡ false
+        → MetEnd R.reads source.old source.new progress.old progress.new)) }
+    ensures over { IfOk result (λ o. IfNone o (ReachesEnd progress.old progress.new)) }
+    ensures stays { progress.old.over ≡ true
+        → (result ≡ Ok None) × (progress.new ≡ progress.old) × (source.new ≡ source.old) }
 
     // The faults.
-    ensures read_failed { result ≡ Err ReadFault.ReadFailed →
-        FallsShort R.reads.delivered source.old source.new.reader (at_most_announced progress.old.left (size_of progress.old)) }
-    ensures came { result ≡ Err ReadFault.ReadFailed → IfKnown (to_come R.reads.rest source.old) (λ bytes. HoldsWhatCame R.reads.delivered source.old source.new bytes 0) }
-    ensures too_long { result ≡ Err ReadFault.TooLong → (progress.old.frames ≡ MAX_FRAMES)
-        × IfKnown (to_come R.reads.rest source.old) (λ bytes. size_of progress.old ≤ length (within_sound progress.old.left bytes)) }
-    ensures kept { result ≡ Err ReadFault.TooLong → Stays R.reads.rest source.old source.new }
+    ensures read_failed { result ≡ Err ReadFault.ReadFailed → CutShort R.reads source.old source.new progress.old }
+    ensures too_long { result ≡ Err ReadFault.TooLong
+        → FollowsMaximum R.reads.rest source.old progress.old × Stays R.reads.rest source.old source.new }
     ensures err { OnErr result (progress.new ≡ progress.old) }
-    ensures failures { MatchBool (is_read_failed result)
-        (R.reads.failures source.new.reader ≡ saturated (R.reads.failures source.old.reader + 1))
-        (R.reads.failures source.new.reader ≡ R.reads.failures source.old.reader) }
+    ensures failures { CountsReadFailure R.reads (is_read_failed result) source.old source.new }
     ensures maximum { progress.new.frames ≤ MAX_FRAMES }
 
     // No read where the bytes are there.
-    ensures unread { at_most_announced progress.old.left (size_of progress.old) ≤ length source.old.bytes → source.new.reader ≡ source.old.reader }
+    ensures unread { at_most_announced progress.old.left (size_of progress.old) ≤ length source.old.bytes
+        → source.new.reader ≡ source.old.reader }
 {
     if progress.is_over {
         return Ok(None);
@@ -259,31 +246,18 @@ pub fn take_frame<R: ReadBeside>(
 ) -> Result<Option<Frame>, TooLong>
     requires begun { progress.old.over ≡ false }
 
-    // A frame.
-    ensures frame { IfOk result (λ o. IfSome o (λ f. IfKnown (to_come R.reads.rest source.old) (λ bytes.
-        TakesFrame progress.old bytes f (to_come R.reads.rest source.new)))) }
-    ensures channels { IfOk result (λ o. IfSome o (λ f. length f ≡ progress.old.channels)) }
-    ensures delivered { IfOk result (λ o. OnSome o (Takes R.reads.delivered source.old source.new (size_of progress.old))) }
-    ensures counted { IfOk result (λ o. OnSome o (progress.new ≡ after_frame progress.old)) }
-    ensures below { IfOk result (λ o. OnSome o (progress.old.frames < MAX_FRAMES)) }
-
-    // The end.
-    ensures end { IfOk result (λ o. IfNone o (IfKnown (to_come R.reads.rest source.old) (λ bytes.
-        (length source.old.bytes < at_most_announced progress.old.left (size_of progress.old) → bytes ≡ source.old.bytes) → EndsSound progress.old bytes progress.new))) }
-    ensures left { IfOk result (λ o. IfNone o (IfKnown (to_come R.reads.rest source.old) (λ bytes.
-        (length source.old.bytes < at_most_announced progress.old.left (size_of progress.old) → bytes ≡ source.old.bytes) → to_come R.reads.rest source.new ≡ Some (drop (length (within_sound progress.old.left bytes)) bytes)))) }
-    ensures over { IfOk result (λ o. IfNone o ((progress.new.over ≡ true) × (progress.new.frames ≡ progress.old.frames))) }
+    // A frame, or the end.
+    ensures frame { IfOk result (λ o. IfSome o (TookFrame R.reads source.old source.new progress.old progress.new)) }
+    ensures end { IfOk result (λ o. IfNone o (HoldsRest R.reads.rest source.old progress.old
+        → MetEnd R.reads source.old source.new progress.old progress.new)) }
+    ensures over { IfOk result (λ o. IfNone o (ReachesEnd progress.old progress.new)) }
 
     // Too many frames.
-    ensures too_long { OnErr result ((progress.old.frames ≡ MAX_FRAMES)
-        × IfKnown (to_come R.reads.rest source.old) (λ bytes. size_of progress.old ≤ length (within_sound progress.old.left bytes))) }
-    ensures kept { OnErr result (source.new ≡ source.old) }
+    ensures too_long { OnErr result (FollowsMaximum R.reads.rest source.old progress.old) }
     ensures err { OnErr result (progress.new ≡ progress.old) }
 
     ensures maximum { progress.new.frames ≤ MAX_FRAMES }
-    ensures bytes { IfOk result (λ o. OnSome o (length source.old.bytes ≡ size_of progress.old + length source.new.bytes)) }
-    ensures reader { source.new.reader ≡ source.old.reader }
-    ensures short { source.new.short ≡ source.old.short }
+    ensures source { PassesBytes result source.old source.new progress.old }
 {
     let size = progress.size;
     let got = source.held().min(progress.wanted());

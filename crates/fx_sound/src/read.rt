@@ -1,8 +1,7 @@
 //! Reading the head of a sound.
 
-ghost use Rattle.std.specs.Prelude.{◌≡◌, ◌+◌, ◌-◌, ◌^◌, ◌<◌, ◌≤◌, IfOk, IfErr, MatchBool};
-ghost use Rattle.fx_frame_base.specs.Io.{saturated};
-ghost use Rattle.fx_sound.specs.Source.{to_come, Takes};
+ghost use Rattle.std.specs.Prelude.{◌≡◌, ◌-◌, ◌^◌, ◌<◌, ◌≤◌, IfOk, IfErr};
+ghost use Rattle.fx_sound.specs.Source.{CountsReadFailure, to_come, Takes};
 ghost use Rattle.fx_sound.specs.Known.{IfKnown};
 ghost use Rattle.fx_sound.specs.Head.{kind_of, allowed, after_kind, head_of, ReadsHead};
 ghost use Rattle.fx_sound.specs.HeadFields.{IsProper, is_read_failure};
@@ -40,9 +39,7 @@ fn read_fields<R: ByteIn>(source: &mut Source<R>, kind: Kind) -> Result<HeadFiel
     ensures fault { IfErr result (Refuses R.reads.rest (after_kind kind) source.old) }
     ensures cut { IfErr result (Fails R.reads.rest R.reads.delivered (after_kind kind) source.old source.new) }
     ensures stands { IfErr result (StandsIfKnown R.reads.rest R.reads.delivered (after_kind kind) (2 ^ 24 - 4) source.old source.new) }
-    ensures failures { MatchBool (is_read_failure result)
-        (R.reads.failures source.new.reader ≡ saturated (R.reads.failures source.old.reader + 1))
-        (R.reads.failures source.new.reader ≡ R.reads.failures source.old.reader) }
+    ensures failures { CountsReadFailure R.reads (is_read_failure result) source.old source.new }
 {
     match kind {
         Kind::Wav => read_wav(source),
@@ -59,13 +56,13 @@ pub fn read_head<R: ByteIn>(
     source: &mut Source<R>,
     expected: Option<Kind>,
 ) -> Result<Head, HeadFault>
-    ensures head { IfOk result (λ h. IfKnown (to_come R.reads.rest source.old) (λ bytes. ReadsHead R.reads.rest R.reads.delivered expected bytes source.old source.new h)) }
+    ensures head { IfOk result (λ h. IfKnown (to_come R.reads.rest source.old) (λ bytes.
+        ReadsHead R.reads.rest R.reads.delivered expected bytes source.old source.new h)) }
     ensures fault { IfErr result (Refuses R.reads.rest (head_of expected) source.old) }
     ensures read_failed { IfErr result (Fails R.reads.rest R.reads.delivered (head_of expected) source.old source.new) }
-    ensures stands { IfErr result (StandsIfKnown R.reads.rest R.reads.delivered (head_of expected) MAX_SOUND_OFFSET source.old source.new) }
-    ensures failures { MatchBool (is_read_failure result)
-        (R.reads.failures source.new.reader ≡ saturated (R.reads.failures source.old.reader + 1))
-        (R.reads.failures source.new.reader ≡ R.reads.failures source.old.reader) }
+    ensures stands { IfErr result
+        (StandsIfKnown R.reads.rest R.reads.delivered (head_of expected) MAX_SOUND_OFFSET source.old source.new) }
+    ensures failures { CountsReadFailure R.reads (is_read_failure result) source.old source.new }
 {
     let mut name = [0; 4];
     let Ok(got) = source.fill(&mut name) else {

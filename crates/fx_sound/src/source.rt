@@ -1,8 +1,8 @@
 //! A buffered reader.
 
-ghost use Rattle.std.specs.Prelude.{◌≡◌, ◌+◌, ◌-◌, ◌<◌, ◌≤◌, [], true, false, Some, MatchBool, IfOk, OnOk, OnErr, length, take, drop};
+ghost use Rattle.std.specs.Prelude.{◌≡◌, ◌+◌, ◌-◌, ◌<◌, ◌≤◌, [], true, false, MatchBool, IfOk, OnOk, OnErr, length, take, drop};
 ghost use Rattle.fx_frame_base.specs.Io.{CountsFailure};
-ghost use Rattle.fx_sound.specs.Source.{to_come, AsksBeside, Stays, HoldsAll, HoldsFront, Takes, FallsShort};
+ghost use Rattle.fx_sound.specs.Source.{AsksBeside, FailedBefore, FallsShort, FilledFront, HoldsAll, HoldsFront, Stays, Takes, TookBytes, to_come};
 ghost use Rattle.fx_sound.specs.Known.{IfKnown};
 
 use super::buffer::BUFFER_SIZE;
@@ -196,16 +196,10 @@ impl<R: ByteIn> Source<R> {
     /// read fails, all of `out` is unchanged, and the bytes that came before are held.
     pub fn fill(&mut self, out: &mut [u8]) -> Result<usize, Failed>
         requires { length out.old ≤ BUFFER_SIZE }
-        ensures count { IfOk result (λ n. n ≤ length out.new) }
-        ensures known { IfOk result (λ n. IfKnown (to_come R.reads.rest self.old) (λ bytes.
-            (take n out.new ≡ take n bytes) × (n ≤ length bytes) × (to_come R.reads.rest self.new ≡ Some (drop n bytes)))) }
-        ensures all { IfOk result (λ n. n < length out.new → IfKnown (to_come R.reads.rest self.old) (λ bytes. n ≡ length bytes)) }
-        ensures delivered { IfOk result (Takes R.reads.delivered self.old self.new) }
-        ensures short { OnErr result (FallsShort R.reads.delivered self.old self.new.reader (length out.new)) }
-        ensures untaken { OnErr result (Takes R.reads.delivered self.old self.new 0) }
-        ensures front { OnErr result (IfKnown (to_come R.reads.rest self.old) (HoldsFront self.new)) }
+        ensures taken { IfOk result (TookBytes R.reads self.old self.new (length out.new)) }
+        ensures filled { IfOk result (FilledFront R.reads.rest self.old out.old out.new) }
+        ensures failed { OnErr result (FailedBefore R.reads self.old self.new (length out.new)) }
         ensures unwritten { OnErr result (out.new ≡ out.old) }
-        ensures rest_unchanged { IfOk result (λ n. drop n out.new ≡ drop n out.old) }
         ensures failures { CountsFailure (R.reads.failures self.old.reader) (R.reads.failures self.new.reader) result }
     {
         self.hold(out.len())?;
@@ -217,11 +211,7 @@ impl<R: ByteIn> Source<R> {
 
     /// Takes `maximum` bytes from what is to come, or all there are, and returns how many. Where a read fails, no byte is held.
     pub fn skip(&mut self, maximum: usize) -> Result<usize, Failed>
-        ensures count { IfOk result (λ n. n ≤ maximum) }
-        ensures bytes { IfOk result (λ n. IfKnown (to_come R.reads.rest self.old) (λ bytes.
-            (n ≤ length bytes) × (to_come R.reads.rest self.new ≡ Some (drop n bytes)))) }
-        ensures all { IfOk result (λ n. n < maximum → IfKnown (to_come R.reads.rest self.old) (λ bytes. n ≡ length bytes)) }
-        ensures delivered { IfOk result (Takes R.reads.delivered self.old self.new) }
+        ensures taken { IfOk result (TookBytes R.reads self.old self.new maximum) }
         ensures short { OnErr result (FallsShort R.reads.delivered self.old self.new.reader maximum) }
         ensures none { OnErr result (self.new.bytes ≡ []) }
         ensures failures { CountsFailure (R.reads.failures self.old.reader) (R.reads.failures self.new.reader) result }

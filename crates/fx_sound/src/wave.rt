@@ -1,7 +1,6 @@
 //! Reading the head of a RIFF WAVE sound.
-ghost use Rattle.std.specs.Prelude.{◌≡◌, ◌+◌, ◌-◌, ◌*◌, ◌^◌, ◌<◌, ◌≤◌, Option, None, Some, false, IsTrue, IfSome, IfOk, IfErr, Ok, Err, MatchBool, length, take, min};
-ghost use Rattle.fx_frame_base.specs.Io.{saturated};
-ghost use Rattle.fx_sound.specs.Source.{Takes};
+ghost use Rattle.std.specs.Prelude.{◌≡◌, ◌+◌, ◌-◌, ◌*◌, ◌^◌, ◌<◌, ◌≤◌, Option, None, Some, false, IsTrue, IfSome, IfOk, IfErr, Ok, Err, length, take, min};
+ghost use Rattle.fx_sound.specs.Source.{CountsReadFailure, Takes};
 ghost use Rattle.fx_sound.specs.Kind.{is_of_wav};
 ghost use Rattle.fx_sound.specs.HeadFields.{IsProper, is_read_failure};
 ghost use Rattle.fx_sound.specs.Wave.{half_at, long_at, wav_coding, IsProperSeen, plain_of, format_of, padded_chunk, demand_of, IsNearChunk, AskedAt, format_read, with_body, step_of, end_of, GoesOn, chunks_of, max_chunks, after_riff};
@@ -169,9 +168,7 @@ fn read_format<R: ByteIn>(source: &mut Source<R>, size: u32) -> Result<Format, H
     ensures fault { IfErr result (Refuses R.reads.rest (format_read size) source.old) }
     ensures cut { IfErr result (Fails R.reads.rest R.reads.delivered (format_read size) source.old source.new) }
     ensures stands { IfErr result (StandsIfKnown R.reads.rest R.reads.delivered (format_read size) (padded_chunk size) source.old source.new) }
-    ensures failures { MatchBool (is_read_failure result)
-        (R.reads.failures source.new.reader ≡ saturated (R.reads.failures source.old.reader + 1))
-        (R.reads.failures source.new.reader ≡ R.reads.failures source.old.reader) }
+    ensures failures { CountsReadFailure R.reads (is_read_failure result) source.old source.new }
 {
     let mut buffer = [0; 40];
     let maximum = (size as usize).min(40);
@@ -206,10 +203,9 @@ fn read_body<R: ByteIn>(
     ensures on { IfOk result (GoesOn offset) }
     ensures fault { IfErr result (Refuses R.reads.rest (λ body. with_body offset seen body (Ok demand)) source.old) }
     ensures cut { IfErr result (Fails R.reads.rest R.reads.delivered (λ body. with_body offset seen body (Ok demand)) source.old source.new) }
-    ensures stands { IfErr result (StandsIfKnown R.reads.rest R.reads.delivered (λ body. with_body offset seen body (Ok demand)) (2 ^ 24 - (offset + 8)) source.old source.new) }
-    ensures failures { MatchBool (is_read_failure result)
-        (R.reads.failures source.new.reader ≡ saturated (R.reads.failures source.old.reader + 1))
-        (R.reads.failures source.new.reader ≡ R.reads.failures source.old.reader) }
+    ensures stands { IfErr result
+        (StandsIfKnown R.reads.rest R.reads.delivered (λ body. with_body offset seen body (Ok demand)) (2 ^ 24 - (offset + 8)) source.old source.new) }
+    ensures failures { CountsReadFailure R.reads (is_read_failure result) source.old source.new }
 {
     match demand {
         Demand::Sound(head) => Ok(ChunkStep::Sound(head)),
@@ -251,9 +247,7 @@ fn read_step<R: ByteIn>(
     ensures fault { IfErr result (Refuses R.reads.rest (step_of offset seen) source.old) }
     ensures cut { IfErr result (Fails R.reads.rest R.reads.delivered (step_of offset seen) source.old source.new) }
     ensures stands { IfErr result (StandsIfKnown R.reads.rest R.reads.delivered (step_of offset seen) (2 ^ 24 - offset) source.old source.new) }
-    ensures failures { MatchBool (is_read_failure result)
-        (R.reads.failures source.new.reader ≡ saturated (R.reads.failures source.old.reader + 1))
-        (R.reads.failures source.new.reader ≡ R.reads.failures source.old.reader) }
+    ensures failures { CountsReadFailure R.reads (is_read_failure result) source.old source.new }
 {
     let mut head = [0; 8];
     let Ok(got) = source.fill(&mut head) else {
@@ -280,9 +274,7 @@ fn read_chunks<R: ByteIn>(source: &mut Source<R>) -> Result<HeadFields, HeadFaul
     ensures fault { IfErr result (Refuses R.reads.rest (chunks_of max_chunks 12 None) source.old) }
     ensures cut { IfErr result (Fails R.reads.rest R.reads.delivered (chunks_of max_chunks 12 None) source.old source.new) }
     ensures stands { IfErr result (StandsIfKnown R.reads.rest R.reads.delivered (chunks_of max_chunks 12 None) (2 ^ 24 - 12) source.old source.new) }
-    ensures failures { MatchBool (is_read_failure result)
-        (R.reads.failures source.new.reader ≡ saturated (R.reads.failures source.old.reader + 1))
-        (R.reads.failures source.new.reader ≡ R.reads.failures source.old.reader) }
+    ensures failures { CountsReadFailure R.reads (is_read_failure result) source.old source.new }
 {
     let mut offset = 12;
     let mut seen = None;
@@ -307,9 +299,7 @@ pub(crate) fn read_wav<R: ByteIn>(source: &mut Source<R>) -> Result<HeadFields, 
     ensures fault { IfErr result (Refuses R.reads.rest after_riff source.old) }
     ensures cut { IfErr result (Fails R.reads.rest R.reads.delivered after_riff source.old source.new) }
     ensures stands { IfErr result (StandsIfKnown R.reads.rest R.reads.delivered after_riff (2 ^ 24 - 4) source.old source.new) }
-    ensures failures { MatchBool (is_read_failure result)
-        (R.reads.failures source.new.reader ≡ saturated (R.reads.failures source.old.reader + 1))
-        (R.reads.failures source.new.reader ≡ R.reads.failures source.old.reader) }
+    ensures failures { CountsReadFailure R.reads (is_read_failure result) source.old source.new }
 {
     let mut words = [0; 8];
     let Ok(got) = source.fill(&mut words) else {

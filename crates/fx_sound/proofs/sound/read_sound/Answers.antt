@@ -25,8 +25,8 @@ pub returns-clause-sound : goal.returns-clause-sound
 returns-clause-sound g c = λ bytes known.
     let was : c.read_head.result ≡ Ok c.in_ok-head.head = search rules in
     let head = IfOk-at_ok _ was c.read_head.ensures.head bytes known in
-    let frames = c.in_ok-frames.ensures.frames _ head.others in
-    let end = c.in_ok-frames.ensures.end _ head.others in
+    let frames = c.in_ok-frames.ensures.whole.frames _ head.others in
+    let end = c.in_ok-frames.ensures.whole.end _ head.others in
     let h = c.in_ok-head.head in
     let rest : List ℕ = drop head.offset bytes in
     let sound : List ℕ = within_sound h.announced rest in

@@ -37,7 +37,7 @@ pub returns-then-skipped-length-clause-stands : goal.returns-then-skipped-length
 returns-then-skipped-length-clause-stands g c = λ bytes known.
     let P : Demand → Type 0 = IsNearChunk c.args.offset in
     let near : c.args.offset + 8 + c.in-Other.size + c.in-Other.size % 2 ≤ 16777208 = subst P c.in-Other.is c.requires.demand.1 in
-    let then = c.in-Ok.ensures.bytes bytes known in
-    stands-taken g.R.ByteIn.reads.rest g.R.ByteIn.reads.delivered _ _ c.args.source.now c.skip.new.self bytes _ c.in-Ok.skipped (omega (arith, near)) c.in-Ok.ensures.delivered
+    let then = c.in-Ok.ensures.taken.bytes bytes known in
+    stands-taken g.R.ByteIn.reads.rest g.R.ByteIn.reads.delivered _ _ c.args.source.now c.skip.new.self bytes _ c.in-Ok.skipped (omega (arith, near)) c.in-Ok.ensures.taken.delivered
     (λ k lt. ap (λ m. with_body c.args.offset c.args.seen (take k bytes) (Ok m)) c.in-Other.is ∙ other-cut c.args.offset c.in-Other.size k c.args.seen bytes (omega (arith, lt)))
-    then.0 then.1 (ap (λ m. with_body c.args.offset c.args.seen (take c.in-Ok.skipped bytes) (Ok m)) c.in-Other.is ∙ other-cut c.args.offset c.in-Other.size c.in-Ok.skipped c.args.seen bytes (omega arith)) (λ _. c.in-Ok.ensures.all (omega arith) bytes known)
+    then.0 then.1 (ap (λ m. with_body c.args.offset c.args.seen (take c.in-Ok.skipped bytes) (Ok m)) c.in-Other.is ∙ other-cut c.args.offset c.in-Other.size c.in-Ok.skipped c.args.seen bytes (omega arith)) (λ _. c.in-Ok.ensures.taken.all (omega arith) bytes known)
