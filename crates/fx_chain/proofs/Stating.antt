@@ -7,6 +7,7 @@ use Rattle.fx_frame_base.specs.declared.coding.Coding.TheVariants.{U8, S8, S16Le
 use Rattle.fx_frame_base.specs.Frame.{Samples}
 use Rattle.fx_sound.specs.FrameCoding.{frame_size, coded_samples}
 use Rattle.fx_frame_base.specs.Holds.{kinds, recipes, total}
+use Rattle.fx_frame_base.specs.Io.{ByteReader, ByteWriter}
 use Rattle.fx_frame_base.specs.Lists.{pieces}
 use Rattle.fx_frame_base.specs.Stage.{StageKind}
 use Rattle.fx_chain_flow.specs.Parts.{Parts, moves_of}
@@ -19,12 +20,14 @@ use Rattle.fx_sound.specs.declared.head.Head.{Head}
 use Rattle.fx_sound.specs.Known.{IfKnown}
 use Rattle.fx_sound.proofs.RunLaws.{first_frames-within}
 use Rattle.fx_sound.specs.Sound.{lacking, within_sound}
+use Rattle.fx_sound.specs.Source.{Held, to_come}
 use Rattle.fx_chain_run.specs.declared.report.Report.{Report}
 use Rattle.fx_chain_run.specs.declared.pump.Cause.TheVariants as Causes
 use Rattle.fx_chain_run.specs.declared.report.RunFault.{RunFault}
 use Rattle.fx_chain_run.specs.declared.report.RunFault.TheVariants.{ReadFailed, WriteFailed, TooLong}
 use Rattle.fx_chain.specs.Chain.{ChainParts, IsNewChain, chain_gives, chain_wholes, planned, target_for}
 use Rattle.fx_chain_run.specs.Due.{clips_due, dues}
+use Rattle.fx_chain_run.specs.FlowRun.{RanPart, RanWhole}
 use Rattle.fx_chain_run.specs.FrameWriter.{WroteFront, coded, coded_clips}
 use Rattle.fx_chain_run.specs.Report.{Completed, StoppedAt, cause_of, clips_now, head_for, output_of, report_at, report_in, clip_counts_of, start_of}
 use Rattle.fx_chain_run.specs.Run.{RanToEnd, WantsMore, sound_frames}
@@ -239,10 +242,11 @@ module _ (p : Planning) (c : ChainParts) (new : IsNewChain p c) where
       (Ran-due at bytes first now (TooLong r) some wants done (λ e. absurd (cc)), long.0, sound-part p.head (2 ^ 40 + 1) bytes some long.1)
 
   -- what any run came to
-  pub Ran-result : (at : Parts EffectStage) (known first now : Option (List ℕ)) (result : Result Report RunFault) → 0 < p.head.channels → WantsMore (kinds effect_acts c.flow.stages) (report_in result).frames_in
+  pub Ran-result : {X W : Type 0} (device : ByteReader X) (writer : ByteWriter W) (s s' : Held X) (w w' : W) (at : Parts EffectStage) (result : Result Report RunFault) → 0 < p.head.channels
+      → WantsMore (kinds effect_acts c.flow.stages) (report_in result).frames_in
       → (report_in result).moves ≡ moves_of effect_acts at → (report_in result).clips ≡ clips_now effect_acts at.stages
-      → IfOk result (λ r. IfKnown known (λ bytes. Completed effect_acts c.flow at (target_for p) (start_of p.head) bytes (sound_frames (start_of p.head) r.frames_in bytes) first now r))
-      → IfErr result (λ f. IfKnown known (λ bytes. StoppedAt effect_acts c.flow at (target_for p) (start_of p.head) bytes (sound_frames (start_of p.head) (report_at f).frames_in bytes) first now f))
-      → IfKnown known (λ bytes. Ran p bytes first now result)
-  Ran-result at known first now (Ok r) some wants moves clips done stopped bytes is = Ran-ok at bytes first now r some wants (done bytes is)
-  Ran-result at known first now (Err f) some wants moves clips done stopped bytes is = Ran-stopped at bytes first now f some wants moves clips (stopped bytes is)
+      → IfOk result (RanWhole effect_acts device writer c.flow at (start_of p.head) s s' w w' (target_for p))
+      → IfErr result (RanPart effect_acts device writer c.flow at (start_of p.head) s s' w w' (target_for p))
+      → IfKnown (to_come device.rest s) (λ bytes. Ran p bytes (writer.taken w) (writer.taken w') result)
+  Ran-result device writer s s' w w' at (Ok r) some wants moves clips ran part bytes is = Ran-ok at bytes (writer.taken w) (writer.taken w') r some wants (ran.completed bytes is)
+  Ran-result device writer s s' w w' at (Err f) some wants moves clips ran part bytes is = Ran-stopped at bytes (writer.taken w) (writer.taken w') f some wants moves clips (part.stopped bytes is)

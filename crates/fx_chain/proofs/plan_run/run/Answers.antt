@@ -12,11 +12,13 @@ run_flow-requires-clause-count g c =
 pub run_flow-requires-clause-fits : goal.run_flow-requires-clause-fits
 run_flow-requires-clause-fits g c = short-is _ c.chain.invariant
 
-pub returns-clause-work : goal.returns-clause-work
-returns-clause-work g c = rw (← c.chain.view_is) (rw (work-is _ c.chain.invariant _) at c.run_flow.ensures.work)
+pub returns-clause-counts : goal.returns-clause-counts
+returns-clause-counts g c =
+    let r = c.run_flow.ensures.counts in
+    rw (← c.chain.view_is) (record { wants = r.wants; taken = r.taken; moves = r.moves; work = rw (work-is _ c.chain.invariant _) at r.work; clips = r.clips; recipes = r.recipes; width = r.width })
 
 pub returns-clause-ran : goal.returns-clause-ran
 returns-clause-ran g c =
     let some : 0 < (planning c.args.plan.now).head.channels = rw (c.head.ensures.value) at c.head.ensures.some in
     let r = rw (c.target_of.ensures, c.head.ensures.value) at c.run_flow.ensures in
-    rw (← c.chain.view_is) (λ new. Ran-result (planning c.args.plan.now) _ new c.run_flow.new.flow _ _ _ c.run_flow.result some r.wants r.moves r.clips r.completed r.stopped)
+    rw (← c.chain.view_is) (λ new. Ran-result (planning c.args.plan.now) _ new g.R.ByteIn.reads g.W.ByteOut.writes _ _ _ _ c.run_flow.new.flow c.run_flow.result some r.counts.wants r.counts.moves r.counts.clips r.completed r.stopped)
