@@ -51,7 +51,8 @@ pub fn run<R: ByteIn, W: ByteOut>(
 ) -> Result<Report, RunFault>
     requires plan { chain.old.plan ≡ planning plan.now }
     requires hungry { IsHungry effect_acts chain.old.flow }
-    requires nothing { (taken_of chain.old.flow ≡ 0) × (given_by effect_acts chain.old.flow.left chain.old.flow.stages ≡ 0) }
+    requires nothing { (taken_of chain.old.flow ≡ 0)
+        × (given_by effect_acts chain.old.flow.left chain.old.flow.stages ≡ 0) }
 
     // The result of a run of a new chain, as functions of the plan and the bytes.
     ensures ran { IsNewChain (planning plan.now) chain.old → IfKnown (to_come R.reads.rest source.old) (λ bytes.
