@@ -1,5 +1,5 @@
 -- Sums of samples times small weights, tap by tap and side by side.
-use Rattle.std.proofs.Common.{inl, inr, ◌≡◌, ℕ, replicate, ◌+◌, ◌-◌, ◌*◌, ◌^◌, ◌<◌, ◌≤◌, Bool, true, false, List, [], ◌++◌, length, take, drop, get_or, refl, sym, ap, ◌∙◌, arith, ℤ, pos, ◌+ℤ◌, ◌*ℤ◌, length-append, sum_by, unsigned_abs, nat_lt}
+use Rattle.std.proofs.Common.{inl, inr, ◌≡◌, ℕ, replicate, ◌+◌, ◌-◌, ◌*◌, ◌^◌, ◌<◌, ◌≤◌, List, [], ◌++◌, length, take, drop, get_or, refl, sym, ap, ◌∙◌, arith, ℤ, pos, ◌+ℤ◌, ◌*ℤ◌, length-append, sum_by, unsigned_abs}
 use Rattle.std.specs.Simd.Lanes.{put_chunk, zip2}
 use borrow.Rule.Slice.PartMut.{put_mid}
 use Rattle.std.proofs.lemmas.Bool.{cases_lt}

@@ -1,6 +1,5 @@
 -- A cyclic product of padded lists is a list of plain sums.
-use Rattle.std.proofs.Common.{◌≡◌, ◌+◌, ◌-◌, ◌*◌, ◌<◌, ◌≤◌, ◌^◌, ap, ◌∙◌, sym, refl, ℕ, suc, arith, ℤ, pos, negsuc, ◌*ℤ◌, ◌+ℤ◌, List, [], ◌∷◌, length, get_or, drop, take, unsigned_abs, map, replicate, sum_by}
-use Rattle.std.proofs.Math.IntN.{*ℤ_comm}
+use Rattle.std.proofs.Common.{◌≡◌, ◌+◌, ◌-◌, ◌*◌, ◌<◌, ◌≤◌, ◌^◌, ap, ◌∙◌, sym, refl, ℕ, suc, arith, ℤ, pos, ◌*ℤ◌, List, [], ◌∷◌, length, get_or, drop, take, unsigned_abs, map, replicate, sum_by}
 use Rattle.std.proofs.lemmas.Int.{ints, unsigned_abs-mul}
 use Rattle.std.proofs.lemmas.Nat.{mul-le}
 use Rattle.std.proofs.lemmas.List.{length-drop, length-append, length-replicate, length-map, length-take-le, get_or-drop, get_or-take, get_or_past}

@@ -1,10 +1,10 @@
 -- Sums of numbers of 16 bits times weights, two taps at a time.
-use Rattle.std.proofs.Common.{inl, inr, ◌≡◌, ℕ, ◌+◌, ◌*◌, ◌/◌, ◌%◌, ◌^◌, ◌<◌, ◌≤◌, Bool, true, false, List, [], ◌∷◌, length, drop, take, get_or, refl, sym, ap, ◌∙◌, arith, ℤ, pos, ◌+ℤ◌, ◌*ℤ◌, FitsSigned, w32, sum_by, unsigned_abs, nat_lt, nat_eq, w16}
+use Rattle.std.proofs.Common.{inl, inr, ◌≡◌, ℕ, ◌+◌, ◌*◌, ◌/◌, ◌%◌, ◌^◌, ◌<◌, ◌≤◌, List, [], ◌∷◌, length, drop, take, get_or, refl, sym, ap, ◌∙◌, arith, ℤ, pos, ◌+ℤ◌, ◌*ℤ◌, FitsSigned, sum_by, unsigned_abs, w16}
 use Rattle.std.proofs.lemmas.Bool.{cases_lt}
-use Rattle.std.proofs.lemmas.Int.{ints, fits_signed_from_abs}
+use Rattle.std.proofs.lemmas.Int.{ints}
 use Rattle.std.proofs.lemmas.List.{drop_more, drop_all, drop-drop, get_or-drop, get_or-take, get_or_past, length-drop, length-take-le, take_all}
 use Rattle.std.proofs.lemmas.List.Sums.{sum_by-cons}
-use Rattle.std.proofs.lemmas.Simd.{Each1-get_or, Each1-replicate}
+use Rattle.std.proofs.lemmas.Simd.{Each1-get_or}
 use borrow.Author.Differences.{product_is}
 use Rattle.fx_tap_sums.specs.Pairs.{EightHalves, FourFit, IsTable, PairsAdded, PairsFit, pair_product}
 use Rattle.fx_tap_sums.specs.Products.{sum_of_products}
@@ -12,7 +12,7 @@ use Rattle.fx_tap_sums.proofs.Cyclic.{nothing}
 use Rattle.fx_tap_sums.proofs.Magnitudes.{added-bound, scaled-bound}
 use Rattle.std.proofs.Math.IntN.{*ℤ_comm}
 use Rattle.fx_tap_sums.proofs.Numbers.{add-mul, mul_assoc}
-use Rattle.fx_tap_sums.proofs.PairLanes.{each_of_four, four_back, half-bound, halves_back, passed_four, passed_halves}
+use Rattle.fx_tap_sums.proofs.PairLanes.{four_back, half-bound, halves_back, passed_four, passed_halves}
 use Rattle.fx_tap_sums.proofs.Convolving.{placed-more}
 use Rattle.fx_tap_sums.proofs.ProductBounds.{sum_of_products-drop}
 

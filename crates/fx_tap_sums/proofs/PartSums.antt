@@ -1,20 +1,18 @@
 -- Sums of numbers of 16 bits times weights in two parts: high sums, which count 2^14 times, and low ones.
-use Rattle.std.proofs.Common.{◌≡◌, ℕ, ◌+◌, ◌-◌, ◌*◌, ◌^◌, ◌<◌, ◌≤◌, Bool, true, false, List, [], ◌∷◌, length, drop, take, get_or, set, refl, sym, ap, ◌∙◌, arith, ℤ, pos, inl, inr, ◌+ℤ◌, ◌*ℤ◌, FitsSigned, w32, sum_by, unsigned_abs, nat_lt}
+use Rattle.std.proofs.Common.{◌≡◌, ℕ, ◌+◌, ◌-◌, ◌*◌, ◌^◌, ◌<◌, ◌≤◌, List, [], ◌∷◌, length, drop, take, get_or, set, refl, sym, ap, ◌∙◌, arith, ℤ, pos, inl, inr, ◌+ℤ◌, ◌*ℤ◌, sum_by, unsigned_abs}
 use Rattle.std.proofs.Math.Nat.{lt_of_mul-lt-mul_right}
 use Rattle.std.proofs.lemmas.Bool.{cases_lt}
-use Rattle.std.proofs.lemmas.Bool.Decides.{nat_tests}
-use Rattle.std.proofs.lemmas.Int.{ints, fits_signed_from_abs, unsigned_abs-mul}
+use Rattle.std.proofs.lemmas.Int.{ints, unsigned_abs-mul}
 use Rattle.std.proofs.lemmas.List.{get_or-drop, get_or-set_other, get_or_past, take-take, take_all, take_more}
 use Rattle.std.proofs.lemmas.Grind.{get_or-set_at}
 use Rattle.std.proofs.lemmas.List.Sums.{sum_by-append, sum_by-cons, sum_by-take-le}
-use Rattle.std.proofs.lemmas.Simd.{Each1-replicate}
 use Rattle.fx_tap_sums.specs.Pairs.{AreCarried, ArePairsOfParts, AreParts, AreWithin, FourFit, IsSplit, IsTable, PairsAdded, PairsFit, joined_halves, pair_product}
 use Rattle.fx_tap_sums.specs.Products.{sum_of_products}
 use Rattle.fx_tap_sums.proofs.Magnitudes.{added-bound, scaled-bound}
 use Rattle.fx_tap_sums.proofs.Numbers.{add-mul, mul-add, mul_assoc}
-use Rattle.fx_tap_sums.proofs.PairLanes.{each_of_four, four_back, halves_back, passed_four, passed_halves}
+use Rattle.fx_tap_sums.proofs.PairLanes.{four_back, halves_back, passed_four, passed_halves}
 use Rattle.fx_tap_sums.proofs.Writes.{each_more}
-use Rattle.fx_tap_sums.proofs.PairSums.{AddingHalves, AddingHalves-bound, AddingHalves-first, AddingHalves-last, AddingHalves-two, Lane, Loaded, at-pair, lane}
+use Rattle.fx_tap_sums.proofs.PairSums.{AddingHalves, AddingHalves-bound, AddingHalves-last, AddingHalves-two, Lane, Loaded, at-pair, lane}
 
 -- ---- splits
 

@@ -1,9 +1,8 @@
 -- Sums of products, lane by lane.
-use Rattle.std.proofs.Common.{◌≡◌, ℕ, zero, suc, ◌+◌, ◌*◌, ◌^◌, ◌<◌, ◌≤◌, ap, ◌∙◌, refl, arith, ℤ, pos, negsuc, ◌*ℤ◌, ◌+ℤ◌, List, [], ◌∷◌, to_z, of_z, w64, FitsSigned, length, get_or, drop, take, map}
+use Rattle.std.proofs.Common.{◌≡◌, ℕ, zero, suc, ◌+◌, ◌*◌, ◌^◌, ◌<◌, ◌≤◌, ap, ◌∙◌, refl, arith, ℤ, pos, ◌*ℤ◌, ◌+ℤ◌, List, [], ◌∷◌, to_z, of_z, w64, FitsSigned, length, get_or, drop, take, map}
 use Rattle.std.specs.Simd.Lanes.{Each1, Each2, chunk, zip2}
-use Rattle.std.proofs.lemmas.Int.{ints, to_z-of_z, unsigned_abs-mul, fits_signed_from_abs}
+use Rattle.std.proofs.lemmas.Int.{ints, to_z-of_z, fits_signed_from_abs}
 use Rattle.std.proofs.lemmas.List.{drop_more}
-use Rattle.std.proofs.lemmas.Nat.{mul-le}
 use Rattle.std.proofs.lemmas.Simd.{Each1-get_or, length-zip2}
 use Rattle.fx_tap_sums.specs.Products.{sum_of_products}
 use Rattle.fx_tap_sums.specs.Lanes.{LanesWithin, WithinLane, joined, joined_lanes, lane_sum}

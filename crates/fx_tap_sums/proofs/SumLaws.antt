@@ -1,5 +1,5 @@
 -- Sums of samples times gains, one for each channel.
-use Rattle.std.proofs.Common.{inl, inr, ℕ, ℤ, pos, ◌+◌, ◌-◌, ◌*◌, ◌^◌, ◌<◌, ◌≤◌, ◌≡◌, ◌+ℤ◌, ◌*ℤ◌, Bool, true, false, List, length, get_or, set, refl, arith, to_z, of_z, neg_ℤ, ◌≤ℤ◌, unsigned_abs, nat_eq, nat_lt}
+use Rattle.std.proofs.Common.{inl, inr, ℕ, ℤ, pos, ◌+◌, ◌-◌, ◌*◌, ◌^◌, ◌<◌, ◌≤◌, ◌≡◌, ◌+ℤ◌, ◌*ℤ◌, Bool, true, false, List, length, get_or, set, refl, arith, to_z, of_z, neg_ℤ, ◌≤ℤ◌, unsigned_abs, nat_eq}
 use Rattle.std.proofs.lemmas.Bool.{cases_lt}
 use Rattle.std.proofs.lemmas.Bool.Decides.{nat_tests}
 use Rattle.std.proofs.lemmas.Grind.{get_or-set_at}

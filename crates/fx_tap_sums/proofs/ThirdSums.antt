@@ -1,17 +1,17 @@
 -- Sums by products of three thirds: what the passes and the two products make of loaded numbers.
-use Rattle.std.proofs.Common.{◌≡◌, ◌+◌, ◌-◌, ◌*◌, ◌^◌, ◌<◌, ◌≤◌, ◌∙◌, ap, sym, refl, ℕ, zero, suc, arith, ℤ, pos, neg_ℤ, ◌*ℤ◌, ◌+ℤ◌, List, [], ◌∷◌, ◌++◌, length, get_or, drop, take, map, replicate, ◌-ℤ◌, inl, inr}
+use Rattle.std.proofs.Common.{◌≡◌, ◌+◌, ◌-◌, ◌*◌, ◌^◌, ◌<◌, ◌≤◌, ◌∙◌, ap, sym, refl, ℕ, zero, suc, arith, ℤ, pos, neg_ℤ, ◌*ℤ◌, ◌+ℤ◌, List, [], ◌∷◌, ◌++◌, length, get_or, drop, take, map, ◌-ℤ◌, inl, inr}
 use Rattle.std.proofs.lemmas.Int.{ints}
 use Rattle.std.proofs.lemmas.Bool.{cases_lt}
 use Rattle.std.proofs.lemmas.List.{length-drop, length-append, length-map, length-take-le, get_or-drop, get_or-take, get_or-append-add, get_or_append_left, drop-drop, take_all, take-append-drop}
 use borrow.Author.Differences.{product_is}
 use Rattle.fx_tap_sums.specs.Multiplying.{MultipliesBy}
 use Rattle.fx_tap_sums.specs.Products.{sum_of_products}
-use Rattle.fx_tap_sums.specs.Quarters.{difference_at, minus_at, spread_at, with_difference_at}
+use Rattle.fx_tap_sums.specs.Quarters.{difference_at, with_difference_at}
 use Rattle.fx_tap_sums.specs.Residues.{AreCongruent, AreRemainders, AreSame, IsModulus, Same, inverse_of_word}
-use Rattle.fx_tap_sums.specs.Transform.{AreRoots, combined, cyclic, root_at}
+use Rattle.fx_tap_sums.specs.Transform.{AreRoots, combined, root_at}
 use Rattle.fx_tap_sums.specs.Prepared.{IsLoaded, IsPreparedWeights, padded_weights}
 use Rattle.fx_tap_sums.proofs.Numbers.{neg-mul}
-use Rattle.fx_tap_sums.proofs.Residues.{same_add, same_is, same_mul, same_negated, same_on}
+use Rattle.fx_tap_sums.proofs.Residues.{same_add, same_mul, same_negated, same_on}
 use Rattle.fx_tap_sums.proofs.Steps.{at_combined}
 use Rattle.fx_tap_sums.proofs.Cyclic.{length-combined, round}
 use Rattle.fx_tap_sums.proofs.CyclicSums.{length-padded, padded_at, round_is}

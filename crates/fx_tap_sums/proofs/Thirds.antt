@@ -1,16 +1,16 @@
 -- Sums of products over a list in thirds, by a product modulo x^2m - 1 and another modulo x^m - r, where the square of r is -1.
-use Rattle.std.proofs.Common.{◌≡◌, ◌+◌, ◌-◌, ◌*◌, ◌<◌, ◌≤◌, ◌∙◌, ap, sym, refl, ℕ, zero, suc, arith, ℤ, pos, neg_ℤ, ◌*ℤ◌, ◌+ℤ◌, List, [], ◌∷◌, ◌++◌, length, get_or, drop, take, map, replicate}
+use Rattle.std.proofs.Common.{◌≡◌, ◌+◌, ◌-◌, ◌*◌, ◌<◌, ◌≤◌, ◌∙◌, sym, refl, ℕ, zero, suc, arith, ℤ, pos, neg_ℤ, ◌*ℤ◌, ◌+ℤ◌, List, [], ◌∷◌, ◌++◌, length, drop, map, replicate}
 use Rattle.std.proofs.lemmas.Int.{ints}
-use Rattle.std.proofs.lemmas.List.{length-drop, length-append, length-map, get_or-drop, drop_all, drop-map, drop-append-le}
+use Rattle.std.proofs.lemmas.List.{length-drop, length-map, get_or-drop, drop_all, drop-map}
 use borrow.Author.Differences.{product_is}
 use Rattle.fx_frame_base.proofs.ListPlaces.{zeros-sample}
 use Rattle.fx_tap_sums.specs.Products.{sum_of_products}
 use Rattle.fx_tap_sums.specs.Residues.{Same}
 use Rattle.fx_tap_sums.specs.Transform.{combined, cyclic}
 use Rattle.fx_tap_sums.specs.Prepared.{padded_weights}
-use Rattle.fx_tap_sums.proofs.Numbers.{add-mul, mul-add, mul-neg, mul_assoc, mul_swap, neg-mul}
+use Rattle.fx_tap_sums.proofs.Numbers.{add-mul, mul-add, mul_assoc, mul_swap, neg-mul}
 use Rattle.fx_tap_sums.proofs.Residues.{same_add, same_is, same_mul, same_negated, same_on, same_times}
-use Rattle.fx_tap_sums.proofs.Cyclic.{append_left, append_right, beyond_end, combined_left, drop-combined, drop_back, length-combined, nothing, round, round_both}
+use Rattle.fx_tap_sums.proofs.Cyclic.{append_right, beyond_end, combined_left, drop-combined, drop_back, length-combined, nothing, round, round_both}
 use Rattle.fx_tap_sums.proofs.CyclicSums.{length-padded, times, unscaled_is, zeros}
 
 -- ---- what is left of padded, scaled weights

@@ -1,4 +1,4 @@
-use Rattle.std.proofs.Common.{rules, ◌≡◌, ◌^◌, ◌∙◌, ap, pos, arith, replicate, slice_index_or}
+use Rattle.std.proofs.Common.{rules, ◌≡◌, ◌^◌, ◌∙◌, arith, replicate}
 use Rattle.fx_tap_sums.proofs.Convolving.{products-added, splat-within}
 use Rattle.fx_tap_sums.proofs.ProductLanes.{kernel_small, lanes_are, mul_asked, sums_asked}
 use Rattle.fx_tap_sums.proofs.convolve.add_products.Goals as goal

@@ -1,5 +1,4 @@
 use Rattle.std.proofs.Common.{pos, slice_index_or, ◌^◌}
-use Rattle.fx_tap_sums.specs.Pairs.{FourFit}
 use Rattle.fx_tap_sums.proofs.PairLanes.{AreFloors, IsStep, carry-bound, carry-value, floors, floors-mul_asked, four_back, rest-at, rest-below, rest-fit, rest_are, rest_asked, step-is, step-of}
 use Rattle.fx_tap_sums.proofs.pairs.carry.Goals.{After-carried-carried}
 use Rattle.fx_tap_sums.proofs.pairs.carry.Goals as goal

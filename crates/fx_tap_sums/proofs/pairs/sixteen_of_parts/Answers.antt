@@ -1,11 +1,11 @@
-use Rattle.std.proofs.Common.{◌≡◌, ◌+◌, ◌-◌, ◌*◌, ◌<◌, ◌≤◌, ◌^◌, ℕ, ℤ, pos, ◌*ℤ◌, List, drop, get_or, arith, unsigned_abs}
+use Rattle.std.proofs.Common.{◌≡◌, ◌+◌, ◌*◌, ◌<◌, ◌≤◌, ◌^◌, ℕ, ℤ, pos, ◌*ℤ◌, List, drop, get_or, arith, unsigned_abs}
 use Rattle.fx_tap_sums.specs.Lanes.{LanesWithin}
-use Rattle.fx_tap_sums.specs.Pairs.{ArePairsOfParts, EightHalves, FourFit, PairsAdded, PairsFit, joined_at}
+use Rattle.fx_tap_sums.specs.Pairs.{EightHalves}
 use Rattle.fx_tap_sums.specs.Products.{sum_of_products}
-use Rattle.fx_tap_sums.proofs.PairLanes.{lane-within, passed_four, passed_halves}
+use Rattle.fx_tap_sums.proofs.PairLanes.{lane-within}
 use Rattle.fx_tap_sums.proofs.ProductLanes.{wide-within, wide_back}
-use Rattle.fx_tap_sums.proofs.PairSums.{Loaded, sixteen-turns}
-use Rattle.fx_tap_sums.proofs.PartSums.{AddingParts, AddingParts-next, Carried-next, Step, high-fit, joined-small, lane-limit, low-fit, parts-sum-at}
+use Rattle.fx_tap_sums.proofs.PairSums.{sixteen-turns}
+use Rattle.fx_tap_sums.proofs.PartSums.{AddingParts-next, Carried-next, Step, high-fit, joined-small, lane-limit, low-fit, parts-sum-at}
 use Rattle.fx_tap_sums.proofs.pairs.sixteen_of_parts.Given as given
 use Rattle.fx_tap_sums.proofs.pairs.sixteen_of_parts.Goals.{After-load_halves-fourth, After-put_turns-2}
 use Rattle.fx_tap_sums.proofs.pairs.sixteen_of_parts.Goals as goal

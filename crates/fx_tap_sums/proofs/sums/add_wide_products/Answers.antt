@@ -1,4 +1,4 @@
-use Rattle.std.proofs.Common.{rules, ◌≡◌, ◌<◌, ◌≤◌, ◌^◌, ◌∙◌, refl, List, ℕ, ℤ, pos, ◌+ℤ◌, ◌*ℤ◌, length, arith, slice_index_or, unsigned_abs, to_z, of_z, w32, w64}
+use Rattle.std.proofs.Common.{rules, ◌≡◌, ◌<◌, ◌≤◌, ◌^◌, ◌∙◌, refl, List, ℕ, ℤ, pos, ◌+ℤ◌, ◌*ℤ◌, length, arith, slice_index_or, unsigned_abs, to_z, of_z, w32}
 use Rattle.std.proofs.lemmas.List.{get_or-set_other}
 use Rattle.fx_tap_sums.proofs.Fitting.{wide-fits}
 use Rattle.fx_tap_sums.proofs.SmallSums.{product-added, wide-bound}

@@ -1,4 +1,4 @@
-use Rattle.std.proofs.Common.{arith, ◌≡◌, ◌+◌, ◌-◌, ◌*◌, ◌^◌, ℕ, List, pos, neg_ℤ, slice_index_or}
+use Rattle.std.proofs.Common.{arith, ◌≡◌, ◌+◌, ◌-◌, ◌*◌, ◌^◌, ℕ, List, pos, neg_ℤ}
 use Rattle.fx_tap_sums.specs.Quarters.{spread_at}
 use Rattle.fx_tap_sums.specs.Residues.{AreFour, IsModulus}
 use Rattle.fx_tap_sums.proofs.Quarters.{four_wider, spread_from}

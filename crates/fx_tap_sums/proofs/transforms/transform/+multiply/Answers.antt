@@ -1,4 +1,4 @@
-use Rattle.std.proofs.Common.{arith, ◌≡◌, ◌<◌, ◌≤◌, ◌+◌, ◌-◌, ◌*◌, ◌/◌, ◌^◌, ◌∙◌, refl, sym, ℕ, length}
+use Rattle.std.proofs.Common.{arith, ◌≡◌, ◌<◌, ◌≤◌, ◌+◌, ◌-◌, ◌*◌, ◌/◌, ◌^◌, ◌∙◌, refl, ℕ, length}
 use Rattle.std.proofs.lemmas.Nat.{mul-le}
 use Rattle.fx_tap_sums.proofs.Leaves.{product_by_quarters}
 use Rattle.fx_tap_sums.proofs.Quarters.{EachLess, EachLong, Quarters, as_long, joined_less, Quartered, place_of_quarters, quartered, quarters_are, quarters_fit, quarters_long}
