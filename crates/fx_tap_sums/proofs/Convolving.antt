@@ -1,15 +1,15 @@
 -- Sums of samples times small weights, tap by tap and side by side.
-use Rattle.std.proofs.Common.{◌≡◌, ℕ, replicate, ◌+◌, ◌-◌, ◌*◌, ◌^◌, ◌<◌, ◌≤◌, Bool, true, false, List, [], ◌++◌, length, take, drop, get_or, refl, sym, ap, ◌∙◌, arith, ℤ, pos, ◌+ℤ◌, ◌*ℤ◌, length-append}
-use Rattle.std.specs.Prelude.{sum_by, unsigned_abs, nat_lt}
+use Rattle.std.proofs.Common.{inl, inr, ◌≡◌, ℕ, replicate, ◌+◌, ◌-◌, ◌*◌, ◌^◌, ◌<◌, ◌≤◌, List, [], ◌++◌, length, take, drop, get_or, refl, sym, ap, ◌∙◌, arith, ℤ, pos, ◌+ℤ◌, ◌*ℤ◌, length-append, sum_by, unsigned_abs}
 use Rattle.std.specs.Simd.Lanes.{put_chunk, zip2}
 use borrow.Rule.Slice.PartMut.{put_mid}
-use Rattle.std.proofs.lemmas.Bool.Decides.{nat_tests}
+use Rattle.std.proofs.lemmas.Bool.{cases_lt}
 use Rattle.std.proofs.lemmas.Int.{ints}
 use Rattle.std.proofs.lemmas.List.{drop_more, drop_all, get_or-drop, get_or-append-add, get_or-replicate, get_or_append_left, get_or-take, length-drop, length-take-le}
 use Rattle.std.proofs.lemmas.List.Sums.{sum_by-cons}
 use Rattle.std.proofs.lemmas.Simd.{Each1-from_get_or, Each1-get_or, Each1-replicate, get_or-zip2, length-zip2, put_chunk_is}
 use Rattle.fx_tap_sums.specs.Lanes.{LanesWithin, WithinLane}
 use Rattle.fx_tap_sums.specs.Products.{sum_of_products}
+use Rattle.fx_tap_sums.proofs.ProductLanes.{passed_wide, wide_back}
 use Rattle.fx_tap_sums.proofs.ProductBounds.{sum_of_products-drop}
 use Rattle.fx_tap_sums.proofs.Magnitudes.{added-bound, scaled-bound}
 use Rattle.fx_tap_sums.proofs.Cyclic.{nothing}
@@ -31,10 +31,7 @@ one-fewer ws tap h = rw (drop_more ws tap (pos 0) h) (sum_by-cons unsigned_abs (
 
 -- the weight of a tap has room
 pub weight-bound : (xs ws : List ℤ) (tap : ℕ) (s : ℤ) → tap < length ws → Adding xs ws tap s → unsigned_abs (get_or ws tap (pos 0)) ≤ 2 ^ 30
-weight-bound xs ws tap s h a =
-    let one = one-fewer ws tap h in
-    let bound = a.bound in
-    omega (arith, one, bound)
+weight-bound xs ws tap s h a = omega (arith, one-fewer ws tap h, a.bound)
 
 next-bound : (s p : ℤ) (x w rest whole : ℕ) → unsigned_abs p ≤ x * w → x ≡ 2 ^ 31 → unsigned_abs s + 2 ^ 31 * whole ≤ 2 ^ 61 → whole ≡ w + rest → unsigned_abs (s +ℤ p) + 2 ^ 31 * rest ≤ 2 ^ 61
 next-bound s p x w rest whole product size bound split =
@@ -48,10 +45,9 @@ Adding-next xs ws tap s t in_ws in_xs sample more a =
     let x : ℤ = get_or xs tap (pos 0) in
     let w : ℤ = get_or ws tap (pos 0) in
     let step = sum_of_products-drop xs ws tap (pos 0) (pos 0) in_xs in_ws in
-    let before = a.value in
     let product = scaled-bound x w (2 ^ 31) (unsigned_abs w) sample (omega arith) in
     record {
-      value = omega (arith, ints, step, before, more);
+      value = omega (arith, ints, step, a.value, more);
       bound = rw more (next-bound s (x *ℤ w) (2 ^ 31) (unsigned_abs w) _ _ product refl a.bound (one-fewer ws tap in_ws));
     }
 
@@ -78,19 +74,13 @@ AddingLanes-within window ws base tap lanes a = record {
   small = Each1-from_get_or (WithinLane (2 ^ 61)) lanes (pos 0) (λ k l. Adding-bound (drop (base + 2 * k) window) ws tap (get_or lanes k (pos 0)) (a.each k (rw a.four at l)));
 }
 
-pub AddingLanes-first : (window ws : List ℤ) (base : ℕ) (lanes : List ℤ) → sum_by unsigned_abs ws ≤ 2 ^ 30 → length lanes ≡ 4 → ((k : ℕ) → k < 4 → get_or lanes k (pos 0) ≡ pos 0) → AddingLanes window ws base 0 lanes
-AddingLanes-first window ws base lanes small four none = record {
-  four = four;
-  each = λ k l. rw (none k l) (Adding-first (drop (base + 2 * k) window) ws small);
-}
-
 pub AddingLanes-next : (window ws : List ℤ) (base tap at : ℕ) (lanes loaded next : List ℤ) (w : ℤ) → tap < length ws → length ws + 15 ≤ length window → base ≤ 9 → at ≡ tap + base → LanesWithin (2 ^ 31) loaded
-    → ((k : ℕ) → k < 4 → get_or loaded k (pos 0) ≡ get_or window (at + 2 * k) (pos 0))
-    → w ≡ get_or ws tap (pos 0) → length next ≡ 4 → ((k : ℕ) → k < 4 → get_or next k (pos 0) ≡ get_or lanes k (pos 0) +ℤ (get_or loaded k (pos 0) *ℤ w)) → AddingLanes window ws base tap lanes
-    → AddingLanes window ws base (tap + 1) next
-AddingLanes-next window ws base tap at lanes loaded next w in_ws long low place small samples is four more a = record {
-  four = four;
+    → ((k : ℕ) → k < 4 → get_or loaded k (pos 0) ≡ get_or window (at + 2 * k) (pos 0)) → w ≡ get_or ws tap (pos 0) → LanesWithin (2 ^ 62) next
+    → ((k : ℕ) → k < 4 → get_or next k (pos 0) ≡ get_or lanes k (pos 0) +ℤ (get_or (passed_wide loaded) k (pos 0) *ℤ w)) → AddingLanes window ws base tap lanes → AddingLanes window ws base (tap + 1) (passed_wide next)
+AddingLanes-next window ws base tap at lanes loaded next w in_ws long low place small samples is next_small more_passed a = rw (wide_back (2 ^ 62) next (omega arith) next_small) (record {
+  four = next_small.four;
   each = λ k l.
+      let more = rw (wide_back (2 ^ 31) loaded (omega arith) small) at more_passed in
       let left = length-drop (base + 2 * k) window in
       let in_xs : tap < length (drop (base + 2 * k) window) = omega (arith, left, in_ws, long, low, l) in
       let here : get_or (drop (base + 2 * k) window) tap (pos 0) ≡ get_or loaded k (pos 0) = get_or-drop (base + 2 * k) window tap (pos 0) ∙ ap (λ i. get_or window i (pos 0)) (omega (arith, place)) ∙ sym (samples k l) in
@@ -98,23 +88,19 @@ AddingLanes-next window ws base tap at lanes loaded next w in_ws long low place 
       Adding-next (drop (base + 2 * k) window) ws tap (get_or lanes k (pos 0)) (get_or next k (pos 0)) in_ws in_xs (rw here bound)
       (more k l ∙ ap (λ z. get_or lanes k (pos 0) +ℤ z) (ap (λ x. x *ℤ w) (sym here) ∙ ap (λ y. get_or (drop (base + 2 * k) window) tap (pos 0) *ℤ y) is))
       (a.each k l);
-}
+})
 
 pub AddingLanes-last : (window ws : List ℤ) (base tap : ℕ) (lanes : List ℤ) → length ws ≤ tap → AddingLanes window ws base tap lanes → (k : ℕ) → k < 4 → get_or lanes k (pos 0) ≡ sum_of_products (drop (base + 2 * k) window) ws
 AddingLanes-last window ws base tap lanes over a k l = Adding-last (drop (base + 2 * k) window) ws tap (get_or lanes k (pos 0)) over (a.each k l)
 
 -- ---- sums in their places
 
-by-side : (P : ℕ → ℤ → Type 0) (n at i : ℕ) (new : List ℤ) (b : Bool) → nat_lt i at ≡ b → ((i : ℕ) → i < at → P i (get_or new i (pos 0))) → ((k : ℕ) → k < n → P (at + k) (get_or new (at + k) (pos 0))) → i < at + n → P i (get_or new i (pos 0))
-by-side P n at i new true t before put l = before i (grind (arith, nat_tests))
-by-side P n at i new false t before put l =
-    let other : at ≤ i = grind (arith, nat_tests) in
-    let split : at + (i - at) ≡ i = omega (arith, other) in
-    rw split at (put (i - at) (omega (arith, other, l)))
-
 -- what holds before a place and at so many from it on
 pub placed-more : (P : ℕ → ℤ → Type 0) (n at : ℕ) (new : List ℤ) → ((i : ℕ) → i < at → P i (get_or new i (pos 0))) → ((k : ℕ) → k < n → P (at + k) (get_or new (at + k) (pos 0))) → (i : ℕ) → i < at + n → P i (get_or new i (pos 0))
-placed-more P n at new before put i l = by-side P n at i new (nat_lt i at) refl before put l
+placed-more P n at new before put i l = elim (cases_lt i at) [
+  | inl below ↦ before i below
+  | inr above ↦ let split : at + (i - at) ≡ i = omega arith in rw split at (put (i - at) (omega arith))
+]
 
 -- ---- lanes
 
@@ -166,8 +152,4 @@ mid_at at m k sums new le lt =
 pub mid_long : (at m : ℕ) (sums new : List ℤ) → length new ≡ m → at + m ≤ length sums → length (put_mid at m sums new) ≡ length sums
 mid_long at m sums new size within =
     let front = length-take-le at sums (omega (arith, within)) in
-    let whole = length-append (take at sums) (new ++ drop m (drop at sums)) in
-    let rest = length-append new (drop m (drop at sums)) in
-    let left = length-drop at sums in
-    let last = length-drop m (drop at sums) in
-    omega (arith, size, within, front, whole, rest, left, last)
+    omega (arith, size, within, front, length-append (take at sums) (new ++ drop m (drop at sums)), length-append new (drop m (drop at sums)), length-drop at sums, length-drop m (drop at sums))

@@ -16,16 +16,12 @@ nothing (x ∷ xs) = refl
 pub append_left : (u v h : List ℤ) → sum_of_products (u ++ v) h ≡ sum_of_products u h +ℤ sum_of_products v (drop (length u) h)
 append_left [] v h = omega (arith, ints)
 append_left (x ∷ u) v [] = rw (nothing v) refl
-append_left (x ∷ u) v (c ∷ h) =
-    let rest = append_left u v h in
-    omega (arith, ints)
+append_left (x ∷ u) v (c ∷ h) = omega (arith, ints, append_left u v h)
 
 pub append_right : (u h g : List ℤ) → sum_of_products u (h ++ g) ≡ sum_of_products u h +ℤ sum_of_products (drop (length h) u) g
 append_right u [] g = rw (nothing u) (omega (arith, ints))
 append_right [] (c ∷ h) g = refl
-append_right (x ∷ u) (c ∷ h) g =
-    let rest = append_right u h g in
-    omega (arith, ints)
+append_right (x ∷ u) (c ∷ h) g = omega (arith, ints, append_right u h g)
 
 pub drop_back : (u v : List ℤ) (k : ℕ) → drop (length u + k) (u ++ v) ≡ drop k v
 drop_back [] v k = ap (λ n. drop n v) (omega arith)
@@ -40,27 +36,19 @@ none r = let z = product_is r (pos 0) in omega (arith, ints)
 
 pub combined_left : (r : ℤ) (u v h : List ℤ) → length u ≡ length v → sum_of_products (combined r u v) h ≡ sum_of_products u h +ℤ (r *ℤ sum_of_products v h)
 combined_left r [] [] h same = none r
-combined_left r [] (y ∷ v) h same = absurd (omega arith)
-combined_left r (x ∷ u) [] h same = absurd (omega arith)
 combined_left r (x ∷ u) (y ∷ v) [] same = none r
 combined_left r (x ∷ u) (y ∷ v) (c ∷ h) same =
     let rest = combined_left r u v h (omega arith) in
-    let first = add-mul x (r *ℤ y) c in
-    let back = mul_assoc r y c in
-    let apart = mul-add r (y *ℤ c) (sum_of_products v h) in
-    omega (arith, ints)
+    omega (arith, ints, add-mul x (r *ℤ y) c, mul_assoc r y c, mul-add r (y *ℤ c) (sum_of_products v h))
+combined_left r _ _ _ same = absurd (omega arith)
 
 pub combined_right : (r : ℤ) (u h g : List ℤ) → length h ≡ length g → sum_of_products u (combined r h g) ≡ sum_of_products u h +ℤ (r *ℤ sum_of_products u g)
 combined_right r [] h g same = none r
 combined_right r (x ∷ u) [] [] same = none r
-combined_right r (x ∷ u) [] (d ∷ g) same = absurd (omega arith)
-combined_right r (x ∷ u) (c ∷ h) [] same = absurd (omega arith)
 combined_right r (x ∷ u) (c ∷ h) (d ∷ g) same =
     let rest = combined_right r u h g (omega arith) in
-    let first = mul-add x c (r *ℤ d) in
-    let back = mul_swap x r d in
-    let apart = mul-add r (x *ℤ d) (sum_of_products u g) in
-    omega (arith, ints)
+    omega (arith, ints, mul-add x c (r *ℤ d), mul_swap x r d, mul-add r (x *ℤ d) (sum_of_products u g))
+combined_right r _ _ _ same = absurd (omega arith)
 
 pub length-combined : (r : ℤ) (u v : List ℤ) → length u ≡ length v → length (combined r u v) ≡ length u
 length-combined r [] v same = refl
@@ -95,8 +83,8 @@ right_beyond u h g short =
     omega (arith, ints, rw none at split)
 
 -- what comes round of a list in two parts
-round_both : (m i : ℕ) (a b h : List ℤ) → length a ≡ m → length b ≡ m → i < m → sum_of_products (drop (i + 1) (a ++ b)) h ≡ round a h i +ℤ sum_of_products b (drop (m - 1 - i) h)
-round_both m i a b h a_long b_long lt =
+pub round_both : (m i : ℕ) (a b h : List ℤ) → length a ≡ m → i < m → sum_of_products (drop (i + 1) (a ++ b)) h ≡ round a h i +ℤ sum_of_products b (drop (m - 1 - i) h)
+round_both m i a b h a_long lt =
     let front = drop-append-le (i + 1) a b (omega arith) in
     let left = length-drop (i + 1) a in
     let place : length (drop (i + 1) a) ≡ m - 1 - i = omega arith in
@@ -112,7 +100,7 @@ first_half m i s a b h g a_long b_long h_long g_long lt =
     let kept : drop (length (h ++ g) - 1 - i) (h ++ g) ≡ drop (length g - 1 - i) g = rw place (drop_back h g (length g - 1 - i)) in
     let kept_long = length-drop (length g - 1 - i) g in
     let low = beyond_end a b (drop (length g - 1 - i) g) (omega arith) in
-    let over = round_both m i a b (h ++ g) a_long b_long lt in
+    let over = round_both m i a b (h ++ g) a_long lt in
     let a_left = length-drop (i + 1) a in
     let one = right_beyond (drop (i + 1) a) h g (omega arith) in
     let front = drop-append-le (m - 1 - i) h g (omega arith) in
@@ -134,7 +122,7 @@ second_half m i s a b h g a_long b_long h_long g_long lt =
     let next : length (drop (length h - 1 - i) h) ≡ i + 1 = omega arith in
     let split = rw next at (append_right (a ++ b) (drop (length h - 1 - i) h) g) in
     let low = beyond_end a b (drop (length h - 1 - i) h) (omega arith) in
-    let over = round_both m i a b g a_long b_long lt in
+    let over = round_both m i a b g a_long lt in
     let g_place : m - 1 - i ≡ length g - 1 - i = omega arith in
     let over_is : sum_of_products (drop (i + 1) (a ++ b)) g ≡ round a g i +ℤ stays b g i = rw g_place at over in
     let stay : sum_of_products (a ++ b) (drop (length (h ++ g) - 1 - (m + i)) (h ++ g)) ≡ stays a h i +ℤ (round a g i +ℤ stays b g i) = rw (place, front) (split ∙ rw (low, over_is) refl) in

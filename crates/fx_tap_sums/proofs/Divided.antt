@@ -1,13 +1,10 @@
 -- Samples that are multiples of 256, and sums of products with them.
-use Rattle.std.proofs.Common.{◌≡◌, ◌+◌, ◌%◌, ◌<◌, ◌≤◌, ◌^◌, sym, ℕ, suc, arith, ℤ, pos, negsuc, ◌*ℤ◌, List, [], ◌∷◌, length, get_or, drop, ◌+ℤ◌, to_z, of_z, w32, unsigned_abs}
-use Rattle.std.specs.Prelude.{bit_or, map}
+use Rattle.std.proofs.Common.{◌≡◌, ◌+◌, ◌%◌, ◌<◌, ◌≤◌, ◌^◌, sym, ℕ, suc, arith, ℤ, pos, negsuc, ◌*ℤ◌, List, [], ◌∷◌, length, get_or, drop, ◌+ℤ◌, to_z, of_z, w32, unsigned_abs, bit_or, map, inl, inr, SFits}
 use Rattle.std.proofs.lemmas.Bool.{cases_lt}
 use Rattle.std.proofs.lemmas.Int.{ints, fits_signed_from_abs, to_z-of_z, to_z_pos}
 use Rattle.std.proofs.lemmas.Nat.{or_mod, le_or_l, le_or_r}
 use Rattle.std.proofs.lemmas.List.{length-drop, length-map, get_or-drop, get_or-map, get_or_past}
-use mathlib.Core.Logic.{inl, inr}
 use lib.Signed.{shr_z}
-use mir.Val.{SFits}
 use borrow.Author.Differences.{product_is}
 use Rattle.fx_tap_sums.specs.Products.{sum_of_products}
 use Rattle.fx_tap_sums.specs.Residues.{Same}
@@ -81,14 +78,13 @@ upper_of xs each =
 times-others : (r : ℤ) (xs ys cs : List ℤ) → length cs ≤ length xs → length cs ≤ length ys → ((k : ℕ) → k < length cs → get_or xs k (pos 0) ≡ r *ℤ get_or ys k (pos 0))
     → sum_of_products xs cs ≡ r *ℤ sum_of_products ys cs
 times-others r xs ys [] x_long y_long are = let none = product_is r (pos 0) in rw (nothing xs, nothing ys) (omega (arith, ints))
-times-others r [] ys (c ∷ cs) x_long y_long are = absurd (omega arith)
-times-others r (x ∷ xs) [] (c ∷ cs) x_long y_long are = absurd (omega arith)
 times-others r (x ∷ xs) (y ∷ ys) (c ∷ cs) x_long y_long are =
     let rest = times-others r xs ys cs (omega arith) (omega arith) (λ k h. are (suc k) (omega arith)) in
     let first : x ≡ r *ℤ y = are 0 (omega arith) in
     let turned : r *ℤ (y *ℤ c) ≡ (r *ℤ y) *ℤ c = mul_assoc r y c in
     let parts = mul-add r (y *ℤ c) (sum_of_products ys cs) in
     rw (rest, first, ← turned) (sym parts)
+times-others r _ _ _ x_long y_long are = absurd (omega arith)
 
 -- from a place on
 times-from : (r : ℤ) (xs ys cs : List ℤ) (i : ℕ) → length ys ≡ length xs → i + length cs ≤ length xs → ((k : ℕ) → k < length ys → get_or xs k (pos 0) ≡ r *ℤ get_or ys k (pos 0))

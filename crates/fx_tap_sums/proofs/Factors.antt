@@ -1,9 +1,8 @@
 -- A product over the modulus, by the quotient of one of its factors: w times the factor v over p is q, and q times n over w is t.
-use Rattle.std.proofs.Common.{◌≡◌, ap, ◌+◌, ◌*◌, ◌/◌, ◌^◌, ◌<◌, ◌≤◌, ℕ, arith}
+use Rattle.std.proofs.Common.{◌≡◌, ap, ◌+◌, ◌*◌, ◌/◌, ◌^◌, ◌<◌, ◌≤◌, ℕ, arith, inl, inr}
 use Rattle.std.proofs.Math.Nat.{div-add-mod, mod-lt}
 use Rattle.std.proofs.lemmas.Bool.{cases_lt}
 use Rattle.std.proofs.lemmas.Nat.{mul-le}
-use mathlib.Core.Logic.{inl, inr}
 
 pub quotient_low : (w p v q n t : ℕ) → 0 < w → q * p ≤ v * w → t * w ≤ q * n → t * p ≤ v * n
 quotient_low w p v q n t some first second = elim (cases_lt (v * n) (t * p)) [

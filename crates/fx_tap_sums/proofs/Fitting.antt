@@ -1,7 +1,5 @@
 -- Products that fit the integers that they are computed in.
-use Rattle.std.proofs.Common.{ℤ, ◌^◌, ◌≤◌, ◌≡◌, ◌*◌, ◌*ℤ◌, arith, to_z, of_z}
-use Rattle.std.specs.Prelude.{FitsSigned, unsigned_abs}
-use Rattle.std.specs.Int.{w64}
+use Rattle.std.proofs.Common.{ℤ, ◌^◌, ◌≤◌, ◌≡◌, ◌*◌, ◌*ℤ◌, arith, to_z, of_z, FitsSigned, unsigned_abs, w64}
 use Rattle.std.proofs.lemmas.Int.{fits_signed_from_abs}
 use Rattle.fx_fixed.specs.declared.gains.TheConstants.{UNIT}
 use Rattle.fx_tap_sums.proofs.SmallSums.{held-in-64, wide-bound}

@@ -1,6 +1,5 @@
 -- The product modulo x^2m - s and a number p, by two products modulo x^m - r and x^m + r, where r is a root of s.
-use Rattle.std.proofs.Common.{◌≡◌, ℕ, ◌+◌, ◌*◌, ◌-◌, ◌<◌, ap, ◌∙◌, refl, arith, ℤ, pos, neg_ℤ, ◌*ℤ◌, ◌+ℤ◌, List, ◌++◌, length, drop}
-use Rattle.std.specs.Prelude.{◌-ℤ◌}
+use Rattle.std.proofs.Common.{◌≡◌, ℕ, ◌+◌, ◌*◌, ◌-◌, ◌<◌, ap, ◌∙◌, refl, arith, ℤ, pos, neg_ℤ, ◌*ℤ◌, ◌+ℤ◌, List, ◌++◌, length, drop, ◌-ℤ◌}
 use Rattle.std.proofs.lemmas.Int.{ints}
 use Rattle.std.proofs.lemmas.List.{length-drop}
 use borrow.Author.Differences.{product_is}
@@ -29,9 +28,7 @@ flat r a0 a1 b0 b1 c0 c1 d0 d1 =
     let f4 = mul-add r (r *ℤ b1) (r *ℤ d0) in
     let f5 = mul-add r (a1 +ℤ (c0 +ℤ b0)) ((r *ℤ r) *ℤ d1) in
     let f6 = ap (λ z. r *ℤ z) (mul_assoc r r d1) in
-    let f7 = mul-add r a1 (c0 +ℤ b0) in
-    let f8 = mul-add r c0 b0 in
-    omega (arith, ints)
+    omega (arith, ints, mul-add r a1 (c0 +ℤ b0), mul-add r c0 b0)
 
 -- the product modulo x^m - r of what is left of a and b there is what is left of their product modulo x^2m - r*r
 pub folded : (m i : ℕ) (r : ℤ) (a b h g : List ℤ) → length a ≡ m → length b ≡ m → length h ≡ m → length g ≡ m → i < m →

@@ -1,6 +1,5 @@
 -- Every second one of eight neighbours in four lanes.
-use Rattle.std.proofs.Common.{◌≡◌, ◌+◌, ◌^◌, ◌<◌, ◌≤◌, ◌∙◌, ap, ℕ, ℤ, pos, List, ◌++◌, length, take, drop, get_or, arith, to_z, of_z, w32, w64, FitsSigned}
-use Rattle.std.specs.Prelude.{map, unsigned_abs}
+use Rattle.std.proofs.Common.{◌≡◌, ◌+◌, ◌^◌, ◌<◌, ◌≤◌, ◌∙◌, ap, ℕ, ℤ, pos, List, ◌++◌, length, take, drop, get_or, arith, to_z, of_z, w32, w64, FitsSigned, map, unsigned_abs}
 use Rattle.std.specs.Simd.Lanes.{chunk}
 use Rattle.std.proofs.lemmas.Int.{ints, to_z-of_z, fits_signed_from_abs}
 use Rattle.std.proofs.lemmas.List.{get_or-map, get_or_append_left, length-map}

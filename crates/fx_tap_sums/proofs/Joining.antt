@@ -1,6 +1,5 @@
 -- Four numbers at a time by their remainders modulo the first two primes.
-use Rattle.std.proofs.Common.{◌≡◌, ◌+◌, ◌-◌, ◌*◌, ◌^◌, ◌<◌, ◌≤◌, ℕ, arith, ℤ, pos, neg_ℤ, ◌*ℤ◌, ◌+ℤ◌, unsigned_abs, List, length, get_or}
-use Rattle.std.specs.Prelude.{◌-ℤ◌}
+use Rattle.std.proofs.Common.{◌≡◌, ◌+◌, ◌-◌, ◌*◌, ◌^◌, ◌<◌, ◌≤◌, ℕ, arith, ℤ, pos, neg_ℤ, ◌*ℤ◌, ◌+ℤ◌, unsigned_abs, List, length, get_or, ◌-ℤ◌}
 use Rattle.std.proofs.lemmas.Int.{ints}
 use Rattle.std.proofs.lemmas.Simd.{Each1-from_get_or}
 use Rattle.fx_tap_sums.specs.Joined.{HasBoth}
@@ -15,12 +14,9 @@ raised_in first second turns x less one two by =
     let a = one.0 in
     let b = two.0 in
     let e = by.0 in
-    let one_is = one.1 in
-    let two_is = two.1 in
-    let by_is = by.1 in
     let n : ℤ = pos (second + (1081475080 - first)) in
     let z : ℤ = ((b -ℤ pos 67174392) +ℤ (pos 111957505 *ℤ n)) +ℤ (pos 134348801 *ℤ e) in
-    (neg_ℤ ((pos 22391296 *ℤ ((pos turns -ℤ pos 67567616) +ℤ a)) -ℤ (pos 22522367 *ℤ z)), omega (arith, ints))
+    (neg_ℤ ((pos 22391296 *ℤ ((pos turns -ℤ pos 67567616) +ℤ a)) -ℤ (pos 22522367 *ℤ z)), omega (arith, ints, one.1, two.1, by.1))
 
 -- the multiple is none, where the number is small
 raised_small : (first turns : ℕ) (x k : ℤ) → first < 4 * 134348801 → turns < 135135233 → unsigned_abs x ≤ 2 ^ 53
@@ -51,5 +47,4 @@ pub joined_small : (at : ℕ) (firsts seconds first second : List ℕ) (xs : Lis
 joined_small at firsts seconds first second xs four one two is given = lanes_small xs four (λ k l.
     let x : ℤ = (given k l).0 in
     let both : HasBoth (get_or first k 0) (get_or second k 0) x = rw (one k l, two k l) (given k l).1 in
-    let small = both.small in
-    rw (is k l x both) (omega (arith, ints, small)))
+    rw (is k l x both) (omega (arith, ints, both.small)))

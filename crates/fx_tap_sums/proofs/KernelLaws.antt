@@ -1,6 +1,5 @@
 -- Coefficients over a denominator, in lowest terms.
-use Rattle.std.proofs.Common.{◌≡◌, ℕ, zero, suc, ◌+◌, ◌*◌, ◌<◌, ◌≤◌, List, [], ◌∷◌, length, take, drop, get_or, refl, sym, ap, ◌∙◌, arith, ℤ, pos, ◌+ℤ◌, ◌*ℤ◌}
-use Rattle.std.specs.Prelude.{sum_by, unsigned_abs}
+use Rattle.std.proofs.Common.{◌≡◌, ℕ, zero, suc, ◌+◌, ◌*◌, ◌<◌, ◌≤◌, List, [], ◌∷◌, length, take, drop, get_or, refl, sym, ap, ◌∙◌, arith, ℤ, pos, ◌+ℤ◌, ◌*ℤ◌, sum_by, unsigned_abs}
 use Rattle.std.proofs.lemmas.Int.{ints}
 use Rattle.std.proofs.lemmas.List.{get_or-drop, length-drop}
 use Rattle.std.proofs.lemmas.List.Sums.{sum_by-cons}
@@ -66,10 +65,7 @@ rest-bound (w ∷ ws) (suc n) =
     rw (sum_by-cons unsigned_abs w ws) (omega (arith, rest))
 
 pub part-bound : (ws : List ℤ) (m n : ℕ) → sum_by unsigned_abs (take n (drop m ws)) ≤ sum_by unsigned_abs ws
-part-bound ws m n =
-    let front = front-bound (drop m ws) n in
-    let rest = rest-bound ws m in
-    omega (arith, front, rest)
+part-bound ws m n = omega (arith, front-bound (drop m ws) n, rest-bound ws m)
 
 -- ---- sums over a window
 

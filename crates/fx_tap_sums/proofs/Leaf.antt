@@ -37,8 +37,7 @@ three_wrap s a b c d e f g h =
     let third = mul_swap d s g in
     let none : (b *ℤ e) +ℤ ((c *ℤ f) +ℤ ((d *ℤ g) +ℤ pos 0)) ≡ (b *ℤ e) +ℤ ((c *ℤ f) +ℤ (d *ℤ g)) = omega (arith, ints) in
     let whole = ap (λ z. s *ℤ z) none ∙ mul-add s (b *ℤ e) ((c *ℤ f) +ℤ (d *ℤ g)) in
-    let rest = mul-add s (c *ℤ f) (d *ℤ g) in
-    omega (arith, ints)
+    omega (arith, ints, mul-add s (c *ℤ f) (d *ℤ g))
 
 -- four products of which the factors are the same
 products_same : (p x0 x1 x2 x3 y0 y1 y2 y3 a b c d e f g h : ℤ) → Same p x0 a → Same p x1 b → Same p x2 c → Same p x3 d → Same p y0 e → Same p y1 f → Same p y2 g → Same p y3 h →
@@ -67,16 +66,6 @@ pub leaf_product : (p factor : ℕ) (s : ℤ) (a h : List ℤ) (xs ws zs rs : Li
     ((k : ℕ) → k < 4 → Same (pos p) (pos (get_or zs k 0)) (s *ℤ pos (get_or ws k 0))) →
     ((k : ℕ) → k < 4 → Same (pos p) (pos (get_or rs k 0)) (pos factor *ℤ pos (get_or (leaf_sums xs ws zs) k 0))) →
     IsProduct p 1 factor s a h (get_or rs 3 0 ∷ get_or rs 2 0 ∷ get_or rs 1 0 ∷ get_or rs 0 0 ∷ [])
-leaf_product p factor s [] h xs ws zs rs a_long h_long x w z r = absurd (omega arith)
-leaf_product p factor s (a ∷ []) h xs ws zs rs a_long h_long x w z r = absurd (omega arith)
-leaf_product p factor s (a ∷ b ∷ []) h xs ws zs rs a_long h_long x w z r = absurd (omega arith)
-leaf_product p factor s (a ∷ b ∷ c ∷ []) h xs ws zs rs a_long h_long x w z r = absurd (omega arith)
-leaf_product p factor s (a ∷ b ∷ c ∷ d ∷ e ∷ u) h xs ws zs rs a_long h_long x w z r = absurd (omega arith)
-leaf_product p factor s (a ∷ b ∷ c ∷ d ∷ []) [] xs ws zs rs a_long h_long x w z r = absurd (omega arith)
-leaf_product p factor s (a ∷ b ∷ c ∷ d ∷ []) (e ∷ []) xs ws zs rs a_long h_long x w z r = absurd (omega arith)
-leaf_product p factor s (a ∷ b ∷ c ∷ d ∷ []) (e ∷ f ∷ []) xs ws zs rs a_long h_long x w z r = absurd (omega arith)
-leaf_product p factor s (a ∷ b ∷ c ∷ d ∷ []) (e ∷ f ∷ g ∷ []) xs ws zs rs a_long h_long x w z r = absurd (omega arith)
-leaf_product p factor s (a ∷ b ∷ c ∷ d ∷ []) (e ∷ f ∷ g ∷ h ∷ i ∷ u) xs ws zs rs a_long h_long x w z r = absurd (omega arith)
 leaf_product p factor s (a ∷ b ∷ c ∷ d ∷ []) (e ∷ f ∷ g ∷ h ∷ []) xs ws zs rs a_long h_long x w z r =
     let m : ℤ = pos p in
     let x0 = x 0 (omega arith) in
@@ -95,6 +84,7 @@ leaf_product p factor s (a ∷ b ∷ c ∷ d ∷ []) (e ∷ f ∷ g ∷ h ∷ []
     (scaled_sum m factor (get_or rs 2 0) (get_or (leaf_sums xs ws zs) 2 0) (cyclic s (a ∷ b ∷ c ∷ d ∷ []) (e ∷ f ∷ g ∷ h ∷ []) 1) (r 2 (omega arith)) (same_on m _ _ _ (products_same m _ _ _ _ _ _ _ _ a b c d g h (s *ℤ e) (s *ℤ f) x0 x1 x2 x3 w2 w3 z0 z1) (same_is m _ _ (two_wrap s a b c d e f g h))))
     (scaled_sum m factor (get_or rs 1 0) (get_or (leaf_sums xs ws zs) 1 0) (cyclic s (a ∷ b ∷ c ∷ d ∷ []) (e ∷ f ∷ g ∷ h ∷ []) 2) (r 1 (omega arith)) (same_on m _ _ _ (products_same m _ _ _ _ _ _ _ _ a b c d f g h (s *ℤ e) x0 x1 x2 x3 w1 w2 w3 z0) (same_is m _ _ (one_wraps s a b c d e f g h))))
     (scaled_sum m factor (get_or rs 0 0) (get_or (leaf_sums xs ws zs) 0 0) (cyclic s (a ∷ b ∷ c ∷ d ∷ []) (e ∷ f ∷ g ∷ h ∷ []) 3) (r 0 (omega arith)) (same_on m _ _ _ (products_same m _ _ _ _ _ _ _ _ a b c d e f g h x0 x1 x2 x3 w0 w1 w2 w3) (same_is m _ _ (none_wrap s a b c d e f g h))))
+leaf_product p factor s _ _ xs ws zs rs a_long h_long x w z r = absurd (omega arith)
 
 -- the same with the list backwards, as the code makes it
 pub leaf_reversed : (p factor : ℕ) (s : ℤ) (a h : List ℤ) (xs ws zs rs : List ℕ) → length a ≡ 4 → length h ≡ 4 → length rs ≡ 4 →

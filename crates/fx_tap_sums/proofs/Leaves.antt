@@ -1,11 +1,13 @@
 -- The table of the leaves of a transform: place by place, and of parts of a transform.
-use Rattle.std.proofs.Common.{◌≡◌, ◌+◌, ◌-◌, ◌*◌, ◌/◌, ◌%◌, ◌^◌, ◌<◌, ◌≤◌, ap, refl, ℕ, zero, suc, ℤ, pos, neg_ℤ, ◌*ℤ◌, List, length, get_or, take, drop, arith}
+use Rattle.std.proofs.Common.{◌≡◌, ◌+◌, ◌-◌, ◌*◌, ◌/◌, ◌%◌, ◌^◌, ◌<◌, ◌≤◌, ◌∙◌, ◌++◌, ap, refl, ℕ, zero, suc, ℤ, pos, neg_ℤ, ◌*ℤ◌, List, length, get_or, take, drop, arith}
 use Rattle.std.proofs.Math.Nat.{pow-suc}
 use Rattle.std.proofs.lemmas.List.{length-drop, length-take-le, get_or-take, get_or-drop}
 use Rattle.fx_tap_sums.specs.Leaves.{AreLeaves}
-use Rattle.fx_tap_sums.specs.Residues.{AreSame, Same}
-use Rattle.fx_tap_sums.specs.Transform.{root_at}
-use Rattle.fx_tap_sums.proofs.Quarters.{Quartered, Quarters}
+use Rattle.fx_tap_sums.specs.Multiplying.{MultipliesBy}
+use Rattle.fx_tap_sums.specs.Quarters.{gather_first_at, gather_fourth_at, gather_second_at, gather_third_at, levels_at, spread_first_at, spread_fourth_at, spread_second_at, spread_third_at}
+use Rattle.fx_tap_sums.specs.Residues.{AreCongruent, AreSame, Same}
+use Rattle.fx_tap_sums.specs.Transform.{AreRoots, root_at}
+use Rattle.fx_tap_sums.proofs.Quarters.{EachLong, Quartered, Quarters, multiplies_by, product_of_quarters, quartered}
 
 -- ---- place by place
 
@@ -196,15 +198,46 @@ pub leaves_of_levels : (p levels n place : ℕ) (roots f g front back one two th
 leaves_of_levels p levels n place roots f g front back one two three four some long sizes of are =
     let last : ℕ = 2 ^ (levels - 1) * (place + 1) - 1 in
     let pairs : ℕ = 2 ^ (levels - 3) in
-    let half = sizes.first.twice in
     let quarter = sizes.second.twice in
     let e : levels - 2 ≡ suc (levels - 3) = omega arith in
     let power : n / 2 / 2 ≡ 4 * 2 ^ suc (levels - 3) = rw (← e) sizes.second.power in
     let double = pow-suc 2 (levels - 3) in
     let whole : n / 2 / 2 ≡ 8 * pairs = omega (arith, power, double) in
-    let parts = leaves_of_quarters p roots last (n / 2) (n / 2 / 2) (2 * (n / 2)) (n / 2) pairs f g front back one two three four (omega (arith, long, half)) quarter whole refl quarter of are in
+    let parts = leaves_of_quarters p roots last (n / 2) (n / 2 / 2) (2 * (n / 2)) (n / 2) pairs f g front back one two three four (omega (arith, long, sizes.first.twice)) quarter whole refl quarter of are in
     let last4 : last - 3 * pairs ≡ 2 ^ (levels - 2 - 1) * (2 * (2 * place) + 1) - 1 = last_of_quarter levels place 3 (2 * (2 * place)) some (omega arith) (omega arith) in
     let last3 : last - 2 * pairs ≡ 2 ^ (levels - 2 - 1) * (2 * (2 * place) + 1 + 1) - 1 = last_of_quarter levels place 2 (2 * (2 * place) + 1) some (omega arith) (omega arith) in
     let last2 : last - 1 * pairs ≡ 2 ^ (levels - 2 - 1) * (2 * (2 * place + 1) + 1) - 1 = last_of_quarter levels place 1 (2 * (2 * place + 1)) some (omega arith) (omega arith) in
     let last1 : last - 0 * pairs ≡ 2 ^ (levels - 2 - 1) * (2 * (2 * place + 1) + 1 + 1) - 1 = last_of_quarter levels place 0 (2 * (2 * place + 1) + 1) some (omega arith) (omega arith) in
     (rw last4 at parts.0, (rw last3 at parts.1.0, (rw last2 at parts.1.1.0, rw last1 at parts.1.1.1)))
+
+-- two levels of a transform, the products of the quarters by the leaves, and the levels back make the product by all leaves
+pub product_by_quarters : (p levels n place : ℕ) (roots inverses leaves v low high one two three four front back l1 l2 l3 l4 x1 x2 x3 x4 u1 u2 u3 u4 w1 w2 w3 w4 : List ℕ) →
+    0 < p → n ≡ 4 * 2 ^ levels → 3 ≤ levels → AreRoots p roots inverses → place < 128 → length v ≡ n → length leaves ≡ 2 * n → Quarters (n / 2) (n / 2 / 2) v low high one two three four → Quarters (2 * (n / 2)) (n / 2) leaves front back l1 l2 l3 l4 →
+    EachLong (n / 2 / 2) x1 x2 x3 x4 → EachLong (n / 2 / 2) u1 u2 u3 u4 → EachLong (n / 2 / 2) w1 w2 w3 w4 →
+    AreCongruent p (length x1) x1 (spread_first_at (levels_at roots place) one two three four) →
+    AreCongruent p (length x1) x2 (spread_second_at (levels_at roots place) one two three four) →
+    AreCongruent p (length x1) x3 (spread_third_at (levels_at roots place) one two three four) →
+    AreCongruent p (length x1) x4 (spread_fourth_at (levels_at roots place) one two three four) →
+    MultipliesBy p (levels - 2) roots (2 * (2 * place)) l4 x1 u1 →
+    MultipliesBy p (levels - 2) roots (2 * (2 * place) + 1) l3 x2 u2 →
+    MultipliesBy p (levels - 2) roots (2 * (2 * place + 1)) l2 x3 u3 →
+    MultipliesBy p (levels - 2) roots (2 * (2 * place + 1) + 1) l1 x4 u4 →
+    AreCongruent p (length w1) w1 (gather_first_at u1 u2 u3 u4) →
+    AreCongruent p (length w1) w2 (gather_second_at (levels_at inverses place) u1 u2 u3 u4) →
+    AreCongruent p (length w1) w3 (gather_third_at (levels_at inverses place) u1 u2 u3 u4) →
+    AreCongruent p (length w1) w4 (gather_fourth_at (levels_at inverses place) u1 u2 u3 u4) →
+    MultipliesBy p levels roots place leaves v ((w1 ++ w2) ++ (w3 ++ w4))
+product_by_quarters p levels n place roots inverses leaves v low high one two three four front back l1 l2 l3 l4 x1 x2 x3 x4 u1 u2 u3 u4 w1 w2 w3 w4 some is enough are less v_long leaves_long of_v of_leaves x_long u_long w_long spread1 spread2 spread3 spread4 product1 product2 product3 product4 gather1 gather2 gather3 gather4 = λ s a h f square a_long h_long same transform leaves_are.
+    let m : ℕ = n / 2 in
+    let q : ℕ = n / 2 / 2 in
+    let sizes = quartered levels n is (omega arith) in
+    let f_long : length f ≡ n = let long = leaves_are.long in omega arith in
+    let parts = leaves_of_levels p levels n place roots f leaves front back l1 l2 l3 l4 enough f_long sizes of_leaves leaves_are in
+    let of_f : Quarters m q f (take m f) (drop m f) (take q (take m f)) (drop q (take m f)) (take q (drop m f)) (drop q (drop m f)) = record { front = refl; back = refl; first = refl; second = refl; third = refl; fourth = refl } in
+    product_of_quarters p levels n (levels - 1) m (levels - 2) q place roots inverses v low high one two three four f (take m f) (drop m f) (take q (take m f)) (drop q (take m f)) (take q (drop m f)) (drop q (drop m f)) x1 x2 x3 x4 u1 u2 u3 u4 w1 w2 w3 w4
+    some sizes.first sizes.second are less v_long of_v of_f x_long u_long w_long spread1 spread2 spread3 spread4
+    (multiplies_by p (levels - 2) q (2 * (2 * place)) roots l4 (drop q (drop m f)) x1 u1 x_long.first product1 parts.0)
+    (multiplies_by p (levels - 2) q (2 * (2 * place) + 1) roots l3 (take q (drop m f)) x2 u2 x_long.second product2 parts.1.0)
+    (multiplies_by p (levels - 2) q (2 * (2 * place + 1)) roots l2 (drop q (take m f)) x3 u3 x_long.third product3 parts.1.1.0)
+    (multiplies_by p (levels - 2) q (2 * (2 * place + 1) + 1) roots l1 (take q (take m f)) x4 u4 x_long.fourth product4 parts.1.1.1)
+    gather1 gather2 gather3 gather4 s a h square (a_long ∙ v_long) (h_long ∙ v_long) same transform

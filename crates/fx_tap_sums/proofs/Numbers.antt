@@ -17,14 +17,10 @@ mul-add x a b =
 
 pub add-mul : (a b x : ℤ) → (a +ℤ b) *ℤ x ≡ (a *ℤ x) +ℤ (b *ℤ x)
 add-mul a b x =
-    let sum = sum_is_lem a b in
-    let sum_up = ap (λ n. up x * n) sum in
-    let sum_down = ap (λ n. down x * n) sum in
-    let total = sum_is_lem (a *ℤ x) (b *ℤ x) in
-    let whole = product_is (a +ℤ b) x in
-    let first = product_is a x in
-    let second = product_is b x in
-    same_in ((a +ℤ b) *ℤ x) ((a *ℤ x) +ℤ (b *ℤ x)) (omega arith)
+    let whole = *ℤ_comm (a +ℤ b) x in
+    let first = *ℤ_comm a x in
+    let second = *ℤ_comm b x in
+    omega (arith, ints, mul-add x a b)
 
 pub mul_assoc : (x a b : ℤ) → x *ℤ (a *ℤ b) ≡ (x *ℤ a) *ℤ b
 mul_assoc x a b =
@@ -45,32 +41,18 @@ mul_assoc x a b =
 pub mul_swap : (x r d : ℤ) → x *ℤ (r *ℤ d) ≡ r *ℤ (x *ℤ d)
 mul_swap x r d = mul_assoc x r d ∙ ap (λ z. z *ℤ d) (*ℤ_comm x r) ∙ sym (mul_assoc r x d)
 
-pub neg-mul : (r d : ℤ) → neg_ℤ r *ℤ d ≡ neg_ℤ (r *ℤ d)
-neg-mul r d =
-    let none : r +ℤ neg_ℤ r ≡ pos 0 = omega (arith, ints) in
-    let sum = add-mul r (neg_ℤ r) d in
-    let none_is = ap (λ z. z *ℤ d) none in
-    let z = product_is (pos 0) d in
-    omega (arith, ints)
-
 pub mul-neg : (p k : ℤ) → p *ℤ neg_ℤ k ≡ neg_ℤ (p *ℤ k)
 mul-neg p k =
     let sum = mul-add p k (neg_ℤ k) in
     let none : k +ℤ neg_ℤ k ≡ pos 0 = omega (arith, ints) in
     let nothing_is = ap (λ z. p *ℤ z) none in
-    let z = product_is p (pos 0) in
-    omega (arith, ints)
+    omega (arith, ints, product_is p (pos 0))
+
+pub neg-mul : (r d : ℤ) → neg_ℤ r *ℤ d ≡ neg_ℤ (r *ℤ d)
+neg-mul r d = *ℤ_comm (neg_ℤ r) d ∙ mul-neg d r ∙ ap neg_ℤ (*ℤ_comm d r)
 
 pub neg-square : (r : ℤ) → neg_ℤ r *ℤ neg_ℤ r ≡ r *ℤ r
-neg-square r =
-    let none : r +ℤ neg_ℤ r ≡ pos 0 = omega (arith, ints) in
-    let first = mul-add (neg_ℤ r) r (neg_ℤ r) in
-    let second = add-mul r (neg_ℤ r) r in
-    let one_is = ap (λ z. neg_ℤ r *ℤ z) none in
-    let two_is = ap (λ z. z *ℤ r) none in
-    let z = product_is (neg_ℤ r) (pos 0) in
-    let y = product_is (pos 0) r in
-    omega (arith, ints)
+neg-square r = omega (arith, ints, neg-mul r (neg_ℤ r), mul-neg r r)
 
 -- a factor of what is not 0 is not 0
 pub below-positive : (by q n : ℕ) → by * q ≡ n → 0 < n → 0 < q

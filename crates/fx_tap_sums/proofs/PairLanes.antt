@@ -1,10 +1,9 @@
 -- Products of numbers of 16 bits, two neighbours added up, lane by lane.
-use Rattle.std.proofs.Common.{◌≡◌, ℕ, zero, suc, sym, inl, inr, ◌⊎◌, ◌+◌, ◌-◌, ◌*◌, ◌/◌, ◌%◌, ◌^◌, ◌<◌, ◌≤◌, ap, ◌∙◌, refl, arith, ℤ, pos, negsuc, ◌*ℤ◌, ◌+ℤ◌, List, [], ◌∷◌, ◌++◌, to_z, of_z, w32, w64, FitsSigned, length, get_or, drop, take, replicate}
-use Rattle.std.specs.Prelude.{map, unsigned_abs}
+use Rattle.std.proofs.Common.{◌≡◌, ℕ, zero, suc, sym, inl, inr, ◌⊎◌, ◌+◌, ◌-◌, ◌*◌, ◌/◌, ◌%◌, ◌^◌, ◌<◌, ◌≤◌, ap, ◌∙◌, refl, arith, ℤ, pos, negsuc, ◌*ℤ◌, ◌+ℤ◌, List, [], ◌∷◌, ◌++◌, to_z, of_z, w32, w64, FitsSigned, length, get_or, drop, take, replicate, map, unsigned_abs, w16}
 use Rattle.std.proofs.Math.Nat.{lt_of_mul-lt-mul_right}
 use Rattle.fx_tap_sums.proofs.Numbers.{add-mul}
-use Rattle.std.specs.Int.{w16}
 use Rattle.std.specs.Simd.Lanes.{Each1, Each2, chunk, zip2}
+use Rattle.std.proofs.lemmas.Bool.{cases_lt}
 use Rattle.std.proofs.lemmas.Int.{ints, to_z-of_z, to_z_pos, fits_signed_from_abs, fits_signed_mul, unsigned_abs-mul}
 use Rattle.std.proofs.lemmas.Simd.{Each1-get_or, Each1-from_get_or, length-zip2, get_or-replicate, get_or-zip2, get_or-chunk, length-chunk}
 use Rattle.std.proofs.lemmas.List.{get_or-map, get_or_append_left, get_or-append_right, length-map, length-drop, length-take-le, take_all}
@@ -18,7 +17,7 @@ use mir.Syntax.{Width, shr, add, sub, mul, cast, signed}
 
 -- ---- numbers of 16 bits in 32
 
-half-bound : (x : ℤ) → FitsSigned w16 x → unsigned_abs x ≤ 2 ^ 15
+pub half-bound : (x : ℤ) → FitsSigned w16 x → unsigned_abs x ≤ 2 ^ 15
 half-bound x fits = omega (arith, ints)
 
 half_fits : (x : ℤ) → FitsSigned w16 x → FitsSigned w32 x
@@ -32,19 +31,16 @@ abbrev pub widened : List ℤ → List ℕ
 widened xs = map (act1 (cast signed signed w32) (s_int w16) (s_int w32)) (map (of_z w16) xs)
 
 pub mul_asked : (xs ys : List ℤ) → Each1 (FitsSigned w16) xs → Each1 (FitsSigned w16) ys → Each2 (Asks2 (mul signed) (s_int w32) (s_int w32)) (widened xs) (widened ys)
-mul_asked [] ys f g = tt
-mul_asked (x ∷ xs) [] f g = tt
 mul_asked (x ∷ xs) (y ∷ ys) f g =
     let x_half = to_z-of_z w16 x f.0 in
     let y_half = to_z-of_z w16 y g.0 in
     let x_is = to_z-of_z w32 x (half_fits x f.0) in
     let y_is = to_z-of_z w32 y (half_fits y g.0) in
     (rw (x_half, y_half, x_is, y_is) (product_fits x y f.0 g.0), mul_asked xs ys f.1 g.1)
+mul_asked _ _ f g = tt
 
 pub mul_bits : (xs ys : List ℤ) → Each1 (FitsSigned w16) xs → Each1 (FitsSigned w16) ys
     → zip2 (act2 (mul signed) (s_int w32) (s_int w32) (s_int w32)) (widened xs) (widened ys) ≡ map (of_z w32) (zip2 (λ a b. a *ℤ b) xs ys)
-mul_bits [] ys f g = refl
-mul_bits (x ∷ xs) [] f g = refl
 mul_bits (x ∷ xs) (y ∷ ys) f g =
     let x_half = to_z-of_z w16 x f.0 in
     let y_half = to_z-of_z w16 y g.0 in
@@ -52,28 +48,17 @@ mul_bits (x ∷ xs) (y ∷ ys) f g =
     let y_is = to_z-of_z w32 y (half_fits y g.0) in
     let rest = mul_bits xs ys f.1 g.1 in
     rw (x_half, y_half, x_is, y_is, rest) refl
+mul_bits _ _ f g = refl
 
 pub products_fit : (xs ys : List ℤ) → Each1 (FitsSigned w16) xs → Each1 (FitsSigned w16) ys → Each1 (FitsSigned w32) (zip2 (λ a b. a *ℤ b) xs ys)
-products_fit [] ys f g = tt
-products_fit (x ∷ xs) [] f g = tt
 products_fit (x ∷ xs) (y ∷ ys) f g = (product_fits x y f.0 g.0, products_fit xs ys f.1 g.1)
+products_fit _ _ f g = tt
 
 -- ---- lists of four and eight
 
 pub four_of : (xs : List ℤ) → length xs ≡ 4 → xs ≡ get_or xs 0 (pos 0) ∷ get_or xs 1 (pos 0) ∷ get_or xs 2 (pos 0) ∷ get_or xs 3 (pos 0) ∷ []
-four_of [] l = absurd (omega arith)
-four_of (a ∷ []) l = absurd (omega arith)
-four_of (a ∷ b ∷ []) l = absurd (omega arith)
-four_of (a ∷ b ∷ c ∷ []) l = absurd (omega arith)
 four_of (a ∷ b ∷ c ∷ d ∷ []) l = refl
-four_of (a ∷ b ∷ c ∷ d ∷ e ∷ xs) l = absurd (omega arith)
-
-pub eight_of : (xs : List ℤ) → length xs ≡ 8 → xs ≡ get_or xs 0 (pos 0) ∷ get_or xs 1 (pos 0) ∷ get_or xs 2 (pos 0) ∷ get_or xs 3 (pos 0) ∷ get_or xs 4 (pos 0) ∷ get_or xs 5 (pos 0) ∷ get_or xs 6 (pos 0) ∷ get_or xs 7 (pos 0) ∷ []
-eight_of [] l = absurd (omega arith)
-eight_of (a ∷ []) l = absurd (omega arith)
-eight_of (a ∷ b ∷ []) l = absurd (omega arith)
-eight_of (a ∷ b ∷ c ∷ []) l = absurd (omega arith)
-eight_of (a ∷ b ∷ c ∷ d ∷ xs) l = ap (λ ys. a ∷ b ∷ c ∷ d ∷ ys) (four_of xs (omega arith))
+four_of _ l = absurd (omega arith)
 
 -- a fact of each lane of four
 pub each_of_four : (P : ℕ → Type 0) → P 0 → P 1 → P 2 → P 3 → (k : ℕ) → k < 4 → P k
@@ -83,11 +68,12 @@ each_of_four P a b c d (suc (suc zero)) l = c
 each_of_four P a b c d (suc (suc (suc zero))) l = d
 each_of_four P a b c d (suc (suc (suc (suc k)))) l = absurd (omega arith)
 
-pub lanes_back : (xs : List ℤ) → Each1 (FitsSigned w32) xs → map (to_z w32) (map (of_z w32) xs) ≡ xs
-lanes_back [] fits = refl
-lanes_back (x ∷ xs) fits =
-    let first = to_z-of_z w32 x fits.0 in
-    let rest = lanes_back xs fits.1 in
+-- lanes that were passed on
+pub signed_back : (w : Width) (xs : List ℤ) → Each1 (FitsSigned w) xs → map (to_z w) (map (of_z w) xs) ≡ xs
+signed_back w [] fits = refl
+signed_back w (x ∷ xs) fits =
+    let first = to_z-of_z w x fits.0 in
+    let rest = signed_back w xs fits.1 in
     cc
 
 -- ---- lanes by number
@@ -124,10 +110,8 @@ product_is xs ys zs j is l m = ap (λ (ws : List ℤ). get_or ws j (pos 0)) is �
 neighbours : (xs ys zs : List ℤ) (j : ℕ) → EightHalves xs → EightHalves ys → zs ≡ zip2 (λ a b. a *ℤ b) xs ys → length zs ≡ 8 → Each1 (FitsSigned w32) zs → j + 1 < 8
     → stored (to_z w32 (get_or (map (of_z w32) zs ++ map (of_z w32) zs) j 0)) +ℤ stored (to_z w32 (get_or (map (of_z w32) zs ++ map (of_z w32) zs) (j + 1) 0)) ≡ pair_product xs j ys j
 neighbours xs ys zs j x y is long fits l =
-    let x_long = x.eight in
-    let y_long = y.eight in
-    let first = stored_back _ _ (lane_left w32 zs zs j (omega (arith, long, l)) fits) (lane_fits zs j (omega (arith, long, l)) fits) ∙ product_is xs ys zs j is (omega (arith, x_long, l)) (omega (arith, y_long, l)) in
-    let second = stored_back _ _ (lane_left w32 zs zs (j + 1) (omega (arith, long, l)) fits) (lane_fits zs (j + 1) (omega (arith, long, l)) fits) ∙ product_is xs ys zs (j + 1) is (omega (arith, x_long, l)) (omega (arith, y_long, l)) in
+    let first = stored_back _ _ (lane_left w32 zs zs j (omega (arith, long, l)) fits) (lane_fits zs j (omega (arith, long, l)) fits) ∙ product_is xs ys zs j is (omega (arith, x.eight, l)) (omega (arith, y.eight, l)) in
+    let second = stored_back _ _ (lane_left w32 zs zs (j + 1) (omega (arith, long, l)) fits) (lane_fits zs (j + 1) (omega (arith, long, l)) fits) ∙ product_is xs ys zs (j + 1) is (omega (arith, x.eight, l)) (omega (arith, y.eight, l)) in
     rw (first, second) refl
 
 pub pair_fits : (xs ys zs : List ℤ) (j : ℕ) → EightHalves xs → EightHalves ys → zs ≡ zip2 (λ a b. a *ℤ b) xs ys → length zs ≡ 8 → Each1 (FitsSigned w32) zs → j + 1 < 8 → unsigned_abs (pair_product xs j ys j) < 2 ^ 31
@@ -144,28 +128,25 @@ abbrev pub AddsFit : List ℤ → List ℤ → Type 0
 AddsFit xs ys = Each2 (λ (a b : ℤ). FitsSigned w32 (a +ℤ b)) xs ys
 
 pub add_asked : (xs ys : List ℤ) → Each1 (FitsSigned w32) xs → Each1 (FitsSigned w32) ys → AddsFit xs ys → Each2 (Asks2 (add signed) (s_int w32) (s_int w32)) (map (of_z w32) xs) (map (of_z w32) ys)
-add_asked [] ys f g h = tt
-add_asked (x ∷ xs) [] f g h = tt
 add_asked (x ∷ xs) (y ∷ ys) f g h =
     let x_is = to_z-of_z w32 x f.0 in
     let y_is = to_z-of_z w32 y g.0 in
     (rw (x_is, y_is) h.0, add_asked xs ys f.1 g.1 h.1)
+add_asked _ _ f g h = tt
 
 pub sums_are : (xs ys : List ℤ) → Each1 (FitsSigned w32) xs → Each1 (FitsSigned w32) ys → AddsFit xs ys
     → map (to_z w32) (zip2 (act2 (add signed) (s_int w32) (s_int w32) (s_int w32)) (map (of_z w32) xs) (map (of_z w32) ys)) ≡ zip2 (λ a b. a +ℤ b) xs ys
-sums_are [] ys f g h = refl
-sums_are (x ∷ xs) [] f g h = refl
 sums_are (x ∷ xs) (y ∷ ys) f g h =
     let x_is = to_z-of_z w32 x f.0 in
     let y_is = to_z-of_z w32 y g.0 in
     let sum_is = to_z-of_z w32 (x +ℤ y) h.0 in
     let rest = sums_are xs ys f.1 g.1 h.1 in
     rw (x_is, y_is, sum_is, rest) refl
+sums_are _ _ f g h = refl
 
 pub sums_fit : (xs ys : List ℤ) → AddsFit xs ys → Each1 (FitsSigned w32) (zip2 (λ a b. a +ℤ b) xs ys)
-sums_fit [] ys h = tt
-sums_fit (x ∷ xs) [] h = tt
 sums_fit (x ∷ xs) (y ∷ ys) h = (h.0, sums_fit xs ys h.1)
+sums_fit _ _ h = tt
 
 pub adds_fit : (xs ys : List ℤ) → length xs ≡ 4 → length ys ≡ 4 → ((k : ℕ) → k < 4 → unsigned_abs (get_or xs k (pos 0) +ℤ get_or ys k (pos 0)) < 2 ^ 31) → AddsFit xs ys
 adds_fit xs ys four same small =
@@ -190,18 +171,17 @@ wide_bits (x ∷ xs) fits =
 
 -- ---- vectors that are passed on
 
-half_lanes_back : (xs : List ℤ) → Each1 (FitsSigned w16) xs → map (to_z w16) (map (of_z w16) xs) ≡ xs
-half_lanes_back [] fits = refl
-half_lanes_back (x ∷ xs) fits =
-    let first = to_z-of_z w16 x fits.0 in
-    let rest = half_lanes_back xs fits.1 in
-    cc
+abbrev pub passed_halves : List ℤ → List ℤ
+passed_halves xs = map (to_z w16) (map (of_z w16) xs)
 
-pub halves_back : (xs : List ℤ) → EightHalves xs → map (to_z w16) (map (of_z w16) xs) ≡ xs
-halves_back xs e = half_lanes_back xs e.fits
+abbrev pub passed_four : List ℤ → List ℤ
+passed_four xs = map (to_z w32) (map (of_z w32) xs)
 
-pub four_back : (xs : List ℤ) → FourFit xs → map (to_z w32) (map (of_z w32) xs) ≡ xs
-four_back xs f = lanes_back xs f.fits
+pub halves_back : (xs : List ℤ) → EightHalves xs → passed_halves xs ≡ xs
+halves_back xs e = signed_back w16 xs e.fits
+
+pub four_back : (xs : List ℤ) → FourFit xs → passed_four xs ≡ xs
+four_back xs f = signed_back w32 xs f.fits
 
 -- a fact of each lane of two
 pub each_of_two : (P : ℕ → Type 0) → P 0 → P 1 → (k : ℕ) → k < 2 → P k
@@ -226,18 +206,12 @@ loaded-fits halves at free fits =
 
 -- a fact of each lane of eight
 pub each_of_eight : (P : ℕ → Type 0) → P 0 → P 1 → P 2 → P 3 → P 4 → P 5 → P 6 → P 7 → (k : ℕ) → k < 8 → P k
-each_of_eight P a b c d e f g h k l = by_lane k l
-  where
-    by_lane : (k : ℕ) → k < 8 → P k
-    by_lane zero l = a
-    by_lane (suc zero) l = b
-    by_lane (suc (suc zero)) l = c
-    by_lane (suc (suc (suc zero))) l = d
-    by_lane (suc (suc (suc (suc zero)))) l = e
-    by_lane (suc (suc (suc (suc (suc zero))))) l = f
-    by_lane (suc (suc (suc (suc (suc (suc zero)))))) l = g
-    by_lane (suc (suc (suc (suc (suc (suc (suc zero))))))) l = h
-    by_lane (suc (suc (suc (suc (suc (suc (suc (suc k)))))))) l = absurd (omega arith)
+each_of_eight P a b c d e f g h k l = elim (cases_lt k 4) [
+  | inl below ↦ each_of_four P a b c d k below
+  | inr above ↦
+      let place : 4 + (k - 4) ≡ k = omega arith in
+      rw place at (each_of_four (λ j. P (4 + j)) e f g h (k - 4) (omega arith))
+]
 
 -- ---- two vectors that were written one after the other
 
@@ -260,8 +234,7 @@ put-second new low high at i j z put place l is = ap (λ n. get_or new n (pos 0)
 
 pub lane-within : (xs : List ℤ) (k : ℕ) → k < 4 → LanesWithin (2 ^ 61) xs → WithinLane (2 ^ 61) (get_or xs k (pos 0))
 lane-within xs k l small =
-    let four = small.four in
-    Each1-get_or (WithinLane (2 ^ 61)) xs k (pos 0) (omega (arith, four, l)) small.small
+    Each1-get_or (WithinLane (2 ^ 61)) xs k (pos 0) (omega (arith, small.four, l)) small.small
 
 pub four-within : (a b c d x y z w : ℤ) → a ≡ x → b ≡ y → c ≡ z → d ≡ w → WithinLane (2 ^ 61) x → WithinLane (2 ^ 61) y → WithinLane (2 ^ 61) z → WithinLane (2 ^ 61) w → LanesWithin (2 ^ 61) (a ∷ b ∷ c ∷ d ∷ [])
 four-within a b c d x y z w p q r s e f g h = record {
@@ -303,11 +276,7 @@ shift_is n is (a ∷ b ∷ c ∷ d ∷ []) four fits =
     let third = shift-lane n is c fits.1.1.0 in
     let fourth = shift-lane n is d fits.1.1.1.0 in
     rw (first, second, third, fourth) refl
-shift_is n is [] four fits = absurd (omega arith)
-shift_is n is (a ∷ []) four fits = absurd (omega arith)
-shift_is n is (a ∷ b ∷ []) four fits = absurd (omega arith)
-shift_is n is (a ∷ b ∷ c ∷ []) four fits = absurd (omega arith)
-shift_is n is (a ∷ b ∷ c ∷ d ∷ e ∷ xs) four fits = absurd (omega arith)
+shift_is n is _ four fits = absurd (omega arith)
 
 pub each-shifted-fits : (m : ℕ) (xs : List ℤ) → Each1 (FitsSigned w32) xs → Each1 (FitsSigned w32) (map (λ x. shr_z x m) xs)
 each-shifted-fits m [] fits = tt
@@ -337,23 +306,15 @@ step-of n (inr e) = inr (rw e refl)
 
 floor-fits_8192 : (x q : ℤ) → FitsSigned w32 x → IsFloor 8192 x q → FitsSigned w32 (q *ℤ pos 8192)
 floor-fits_8192 x (pos q) fits f =
-    let is = f.is in
-    let below = f.below in
-    record { sfits = omega (arith, ints, is, below) }
+    record { sfits = omega (arith, ints, f.is, f.below) }
 floor-fits_8192 x (negsuc q) fits f =
-    let is = f.is in
-    let below = f.below in
-    record { sfits = omega (arith, ints, is, below) }
+    record { sfits = omega (arith, ints, f.is, f.below) }
 
 floor-fits_16384 : (x q : ℤ) → FitsSigned w32 x → IsFloor 16384 x q → FitsSigned w32 (q *ℤ pos 16384)
 floor-fits_16384 x (pos q) fits f =
-    let is = f.is in
-    let below = f.below in
-    record { sfits = omega (arith, ints, is, below) }
+    record { sfits = omega (arith, ints, f.is, f.below) }
 floor-fits_16384 x (negsuc q) fits f =
-    let is = f.is in
-    let below = f.below in
-    record { sfits = omega (arith, ints, is, below) }
+    record { sfits = omega (arith, ints, f.is, f.below) }
 
 floor-fits : (m : ℕ) → IsStep m → (x q : ℤ) → FitsSigned w32 x → IsFloor m x q → FitsSigned w32 (q *ℤ pos m)
 floor-fits m (inl e) x q fits f = rw e (floor-fits_8192 x q fits (rw e at f))
@@ -374,19 +335,14 @@ wide-step-is n (inr e) = rw e refl
 
 step-value : (m : ℕ) → IsStep m → to_z w32 m ≡ pos m
 step-value m step =
-    let maximum = step-maximum m step in
-    to_z_pos w32 m (omega (arith, maximum))
+    to_z_pos w32 m (omega (arith, step-maximum m step))
 
 rest-is : (m : ℕ) (x q : ℤ) (f : IsFloor m x q) → x -ℤ (q *ℤ pos m) ≡ pos f.rest
-rest-is m x q f =
-    let is = f.is in
-    omega (arith, ints, is)
+rest-is m x q f = omega (arith, ints, f.is)
 
 rest-fits : (m : ℕ) → IsStep m → (x q : ℤ) → IsFloor m x q → FitsSigned w32 (x -ℤ (q *ℤ pos m))
 rest-fits m step x q f =
-    let maximum = step-maximum m step in
-    let below = f.below in
-    rw (rest-is m x q f) (fits_signed_from_abs w32 (pos f.rest) (omega (arith, maximum, below)))
+    rw (rest-is m x q f) (fits_signed_from_abs w32 (pos f.rest) (omega (arith, step-maximum m step, f.below)))
 
 pub floors-mul_asked : (m : ℕ) → IsStep m → (xs qs : List ℤ) → Each1 (FitsSigned w32) xs → Each1 (FitsSigned w32) qs → AreFloors m xs qs → length xs ≡ 4 → length qs ≡ 4
     → Each2 (Asks2 (mul signed) (s_int w32) (s_int w32)) (map (of_z w32) qs) (m ∷ m ∷ m ∷ m ∷ [])
@@ -443,9 +399,8 @@ pub floors : (m : ℕ) (xs qs : List ℤ) → length xs ≡ 4 → length qs ≡ 
 floors m xs qs four same is = rw (four_of xs four, four_of qs same) (is 0 (omega arith), (is 1 (omega arith), (is 2 (omega arith), (is 3 (omega arith), tt))))
 
 each-rest-fits : (m : ℕ) → IsStep m → (xs qs : List ℤ) → AreFloors m xs qs → Each1 (FitsSigned w32) (rest_lanes m xs qs)
-each-rest-fits m step [] qs h = tt
-each-rest-fits m step (x ∷ xs) [] h = tt
 each-rest-fits m step (x ∷ xs) (q ∷ qs) h = (rest-fits m step x q h.0, each-rest-fits m step xs qs h.1)
+each-rest-fits m step _ _ h = tt
 
 pub rest-fit : (m : ℕ) → IsStep m → (xs qs : List ℤ) → AreFloors m xs qs → length xs ≡ 4 → length qs ≡ 4 → FourFit (rest_lanes m xs qs)
 rest-fit m step xs qs h four same = record {
@@ -460,24 +415,17 @@ pub carry-bound : (m : ℕ) → IsStep m → (h l q : ℤ) → IsFloor m l q →
 carry-bound m step h l q f small =
     let size = unsigned_abs-mul (h +ℤ q) (pos m) in
     let sum = add-mul h q (pos m) in
-    let is = f.is in
-    let rest = f.below in
     let positive : 0 < m = elim step [ inl e ↦ omega (arith, e) | inr e ↦ omega (arith, e) ] in
-    let split : (h +ℤ q) *ℤ pos m +ℤ pos f.rest ≡ joined_halves m h l = omega (arith, ints, is, sum) in
-    let maximum = step-maximum m step in
-    let below : unsigned_abs (h +ℤ q) * m < 2 ^ 31 * m = omega (arith, ints, split, size, small, rest, positive, maximum) in
+    let split : (h +ℤ q) *ℤ pos m +ℤ pos f.rest ≡ joined_halves m h l = omega (arith, ints, f.is, sum) in
+    let below : unsigned_abs (h +ℤ q) * m < 2 ^ 31 * m = omega (arith, ints, split, size, small, f.below, positive, step-maximum m step) in
     lt_of_mul-lt-mul_right m below
 
 pub carry-value : (m : ℕ) (h l q : ℤ) → joined_halves m (h +ℤ q) (l -ℤ (q *ℤ pos m)) ≡ joined_halves m h l
-carry-value m h l q =
-    let sum = add-mul h q (pos m) in
-    omega (arith, ints, sum)
+carry-value m h l q = omega (arith, ints, add-mul h q (pos m))
 
 pub rest-below : (m : ℕ) → IsStep m → (l q : ℤ) → IsFloor m l q → unsigned_abs (l -ℤ (q *ℤ pos m)) ≤ 2 ^ 14
 rest-below m step l q f =
-    let maximum = step-maximum m step in
-    let below = f.below in
-    rw (rest-is m l q f) (omega (arith, maximum, below))
+    rw (rest-is m l q f) (omega (arith, step-maximum m step, f.below))
 
 -- ---- the parts of a weight
 
@@ -494,10 +442,7 @@ part-above m half z = shr_z (z +ℤ pos half) m
 
 half-sum-fits : (m half : ℕ) (z : ℤ) → Weighed m half z → FitsSigned w32 (z +ℤ pos half)
 half-sum-fits m half z w =
-    let maximum = w.maximum in
-    let twice = w.twice in
-    let bound = w.bound in
-    fits_signed_from_abs w32 (z +ℤ pos half) (omega (arith, ints, maximum, twice, bound))
+    fits_signed_from_abs w32 (z +ℤ pos half) (omega (arith, ints, w.maximum, w.twice, w.bound))
 
 above-is : (m half : ℕ) (z : ℤ) → Weighed m half z → to_z w32 (of_z w32 (shr_z (to_z w32 (of_z w32 (to_z w32 (of_z w32 z) +ℤ pos half))) m)) ≡ part-above m half z
 above-is m half z w =
@@ -507,25 +452,16 @@ above-is m half z w =
 -- the low part, which the multiple leaves
 below-bound : (m half : ℕ) (z : ℤ) → Weighed m half z → unsigned_abs (z -ℤ (part-above m half z *ℤ pos m)) ≤ 8192
 below-bound m half z w =
-    let maximum = w.maximum in
-    let twice = w.twice in
-    let some = w.some in
-    let f = shifted-floor m (omega (arith, twice, some)) (z +ℤ pos half) in
-    let is = f.is in
-    let below = f.below in
-    omega (arith, ints, is, below, maximum, twice)
+    let f = shifted-floor m (omega (arith, w.twice, w.some)) (z +ℤ pos half) in
+    omega (arith, ints, f.is, f.below, w.maximum, w.twice)
 
 product-fits : (m half : ℕ) (z : ℤ) → Weighed m half z → FitsSigned w32 (part-above m half z *ℤ pos m)
 product-fits m half z w =
-    let maximum = w.maximum in
-    let bound = w.bound in
-    let low = below-bound m half z w in
-    fits_signed_from_abs w32 (part-above m half z *ℤ pos m) (omega (arith, ints, maximum, bound, low))
+    fits_signed_from_abs w32 (part-above m half z *ℤ pos m) (omega (arith, ints, w.maximum, w.bound, below-bound m half z w))
 
 below-fits : (m half : ℕ) (z : ℤ) → Weighed m half z → FitsSigned w32 (z -ℤ (part-above m half z *ℤ pos m))
 below-fits m half z w =
-    let low = below-bound m half z w in
-    fits_signed_from_abs w32 (z -ℤ (part-above m half z *ℤ pos m)) (omega (arith, low))
+    fits_signed_from_abs w32 (z -ℤ (part-above m half z *ℤ pos m)) (omega (arith, below-bound m half z w))
 
 -- the difference as the code makes it, of the high part as the code makes it
 difference-is : (m half : ℕ) (z : ℤ) → Weighed m half z
@@ -554,16 +490,13 @@ weighed_16384 z fits bound = record { twice = refl; maximum = omega arith; some 
 -- ---- high and low lanes in 64 bits
 
 pub joined-within : (m : ℕ) (x y : ℤ) → unsigned_abs (joined_halves m x y) ≤ 2 ^ 45 → unsigned_abs (joined_halves m x y *ℤ pos 65536) ≤ 2 ^ 61
-joined-within m x y small =
-    let size = unsigned_abs-mul (joined_halves m x y) (pos 65536) in
-    omega (arith, size, small)
+joined-within m x y small = omega (arith, unsigned_abs-mul (joined_halves m x y) (pos 65536), small)
 
 pub wide_asked : (xs : List ℤ) → Each1 (FitsSigned w32) xs → Each1 (Asks1 (cast signed signed w64) (s_int w32)) (map (of_z w32) xs)
 wide_asked [] fits = tt
 wide_asked (x ∷ xs) fits =
     let x_is = to_z-of_z w32 x fits.0 in
-    let bound = lane-bound x fits.0 in
-    (rw x_is (fits_signed_from_abs w64 x (omega (arith, bound))), wide_asked xs fits.1)
+    (rw x_is (fits_signed_from_abs w64 x (omega (arith, lane-bound x fits.0))), wide_asked xs fits.1)
 
 pub joined-lane : (m : ℕ) (high low : List ℤ) (k : ℕ) → length high ≡ 4 → length low ≡ 4 → k < 4
     → get_or (zip2 (λ a b. a +ℤ b) low (zip2 (λ a b. a *ℤ b) high (replicate 4 (pos m)))) k (pos 0) ≡ joined_halves m (get_or high k (pos 0)) (get_or low k (pos 0))

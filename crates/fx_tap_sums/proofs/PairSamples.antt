@@ -1,6 +1,5 @@
 -- Samples that are multiples of 65,536, as those of 16-bit sources are.
-use Rattle.std.proofs.Common.{◌≡◌, ℕ, ◌+◌, ◌-◌, ◌%◌, ◌<◌, ◌≤◌, Bool, true, false, List, length, drop, take, get_or, refl, arith, ℤ, pos}
-use Rattle.std.specs.Prelude.{unsigned_abs, nat_lt, ◌↔◌}
+use Rattle.std.proofs.Common.{◌≡◌, ℕ, ◌+◌, ◌-◌, ◌%◌, ◌<◌, ◌≤◌, Bool, true, false, List, length, drop, take, get_or, refl, arith, ℤ, pos, unsigned_abs, nat_lt, ◌↔◌}
 use Rattle.std.proofs.lemmas.Bool.Decides.{nat_tests}
 use Rattle.std.proofs.lemmas.List.{get_or-drop, get_or-take, get_or_past, length-take-le}
 use Rattle.fx_tap_sums.specs.Pairs.{AreHalves}

@@ -1,6 +1,5 @@
 -- What the product with prepared weights is.
-use Rattle.std.proofs.Common.{◌≡◌, ◌∙◌, ◌+◌, ◌-◌, ◌*◌, ◌^◌, ◌<◌, ◌≤◌, ℕ, ℤ, pos, ◌*ℤ◌, List, ◌∷◌, ap, sym, length, get_or, drop, arith, pow-add, mul_assoc}
-use Rattle.std.specs.Prelude.{map}
+use Rattle.std.proofs.Common.{◌≡◌, ◌∙◌, ◌+◌, ◌-◌, ◌*◌, ◌^◌, ◌<◌, ◌≤◌, ℕ, ℤ, pos, ◌*ℤ◌, List, ◌∷◌, ap, sym, length, get_or, drop, arith, pow-add, mul_assoc, map}
 use Rattle.std.proofs.lemmas.List.{length-map}
 use Rattle.fx_tap_sums.specs.Leaves.{AreLeaves}
 use Rattle.fx_tap_sums.specs.Prepared.{IsPreparedWeights, padded_weights}

@@ -1,10 +1,9 @@
 -- How large a product and a sum of products may be.
-use Rattle.std.proofs.Common.{◌≡◌, ℕ, ◌+◌, ◌*◌, ◌<◌, ◌≤◌, ◌^◌, arith, ℤ, pos, negsuc, neg_ℤ, ◌*ℤ◌, ◌+ℤ◌, ◌≤ℤ◌, refl, List, length, drop, get_or}
+use Rattle.std.proofs.Common.{◌≡◌, ℕ, ◌+◌, ◌*◌, ◌<◌, ◌≤◌, ◌^◌, arith, ℤ, pos, negsuc, neg_ℤ, ◌*ℤ◌, ◌+ℤ◌, ◌≤ℤ◌, refl, List, length, drop, get_or, FitsSigned, unsigned_abs}
 use Rattle.std.specs.Int.{w128}
-use Rattle.std.specs.Prelude.{FitsSigned, unsigned_abs}
-use Rattle.std.proofs.lemmas.Int.{fits_signed_from_abs, ints, unsigned_abs-mul}
-use Rattle.std.proofs.lemmas.Nat.{mul-le}
+use Rattle.std.proofs.lemmas.Int.{fits_signed_from_abs, ints}
 use Rattle.std.proofs.lemmas.List.{drop_more}
+use Rattle.fx_tap_sums.proofs.Magnitudes.{scaled-bound}
 use Rattle.fx_tap_sums.specs.Products.{sum_of_products}
 
 pub within_abs : (z : ℤ) (k : ℕ) → unsigned_abs z ≤ k → (neg_ℤ (pos k) ≤ℤ z) × (z ≤ℤ pos k)
@@ -12,10 +11,7 @@ within_abs (pos n) k h = (omega (arith, ints), omega (arith, ints))
 within_abs (negsuc n) k h = (omega (arith, ints), omega (arith, ints))
 
 pub product_within : (a b : ℤ) (m n : ℕ) → unsigned_abs a ≤ m → unsigned_abs b ≤ n → (neg_ℤ (pos (m * n)) ≤ℤ (a *ℤ b)) × ((a *ℤ b) ≤ℤ pos (m * n))
-product_within a b m n a_small b_small =
-    let size = unsigned_abs-mul a b in
-    let bound : unsigned_abs (a *ℤ b) ≤ m * n = rw size (mul-le _ _ m n a_small b_small) in
-    within_abs (a *ℤ b) (m * n) bound
+product_within a b m n a_small b_small = within_abs (a *ℤ b) (m * n) (scaled-bound a b m n a_small b_small)
 
 -- a product added to a sum that is not too large
 pub sum-fits : (s p : ℤ) (k : ℕ) → k ≤ 2 ^ 95 → neg_ℤ (pos k) ≤ℤ s → s ≤ℤ pos k → neg_ℤ (pos (2 ^ 83)) ≤ℤ p → p ≤ℤ pos (2 ^ 83) → FitsSigned w128 (s +ℤ p)

@@ -1,13 +1,14 @@
 -- Sums of products, lane by lane.
-use Rattle.std.proofs.Common.{◌≡◌, ℕ, zero, suc, ◌+◌, ◌*◌, ◌^◌, ◌<◌, ◌≤◌, ap, ◌∙◌, refl, arith, ℤ, pos, negsuc, ◌*ℤ◌, ◌+ℤ◌, List, [], ◌∷◌, to_z, of_z, w64, FitsSigned, length, get_or, drop, take}
-use Rattle.std.specs.Prelude.{map}
+use Rattle.std.proofs.Common.{◌≡◌, ℕ, zero, suc, ◌+◌, ◌*◌, ◌^◌, ◌<◌, ◌≤◌, ap, ◌∙◌, refl, arith, ℤ, pos, ◌*ℤ◌, ◌+ℤ◌, List, [], ◌∷◌, to_z, of_z, w64, FitsSigned, length, get_or, drop, take, map}
 use Rattle.std.specs.Simd.Lanes.{Each1, Each2, chunk, zip2}
-use Rattle.std.proofs.lemmas.Int.{ints, to_z-of_z, unsigned_abs-mul, fits_signed_from_abs}
+use Rattle.std.proofs.lemmas.Int.{ints, to_z-of_z, fits_signed_from_abs}
 use Rattle.std.proofs.lemmas.List.{drop_more}
-use Rattle.std.proofs.lemmas.Nat.{mul-le}
 use Rattle.std.proofs.lemmas.Simd.{Each1-get_or, length-zip2}
 use Rattle.fx_tap_sums.specs.Products.{sum_of_products}
 use Rattle.fx_tap_sums.specs.Lanes.{LanesWithin, WithinLane, joined, joined_lanes, lane_sum}
+use Rattle.fx_tap_sums.proofs.Magnitudes.{added-bound, scaled-bound}
+use Rattle.fx_tap_sums.proofs.PairLanes.{signed_back}
+use Rattle.fx_tap_sums.proofs.ProductBounds.{sum_of_products-drop}
 use Rattle.fx_tap_sums.proofs.Numbers.{mul-add, mul_assoc}
 use borrow.Rule.Simd.Lanes.{act2, Asks2}
 use borrow.Table.Row.{s_int}
@@ -35,73 +36,68 @@ each_fits b [] small within = tt
 each_fits b (x ∷ xs) small within = (within_fits b x small within.0, each_fits b xs small within.1)
 
 product_within : (m n : ℕ) (x y : ℤ) → WithinLane m x → WithinLane n y → WithinLane (m * n) (x *ℤ y)
-product_within m n x y x_small y_small =
-    let size = unsigned_abs-mul x y in
-    rw size (mul-le _ _ m n x_small y_small)
+product_within m n x y x_small y_small = scaled-bound x y m n x_small y_small
 
 sum_within : (m n : ℕ) (x y : ℤ) → WithinLane m x → WithinLane n y → WithinLane (m + n) (x +ℤ y)
-sum_within m n (pos x) (pos y) x_small y_small = omega (arith, ints)
-sum_within m n (pos x) (negsuc y) x_small y_small = omega (arith, ints)
-sum_within m n (negsuc x) (pos y) x_small y_small = omega (arith, ints)
-sum_within m n (negsuc x) (negsuc y) x_small y_small = omega (arith, ints)
+sum_within m n x y x_small y_small = added-bound x y m n x_small y_small
 
 -- ---- lane by lane
 
 pub mul_asked : (m n : ℕ) (xs ys : List ℤ) → m < 2 ^ 63 → n < 2 ^ 63 → m * n < 2 ^ 63 → Each1 (WithinLane m) xs → Each1 (WithinLane n) ys →
     Each2 (Asks2 (mul signed) (s_int w64) (s_int w64)) (map (of_z w64) xs) (map (of_z w64) ys)
-mul_asked m n [] ys m_fits n_fits fits x_small y_small = tt
-mul_asked m n (x ∷ xs) [] m_fits n_fits fits x_small y_small = tt
 mul_asked m n (x ∷ xs) (y ∷ ys) m_fits n_fits fits x_small y_small =
     let x_is = to_z-of_z w64 x (within_fits m x m_fits x_small.0) in
     let y_is = to_z-of_z w64 y (within_fits n y n_fits y_small.0) in
     (rw (x_is, y_is) (within_fits (m * n) (x *ℤ y) fits (product_within m n x y x_small.0 y_small.0)), mul_asked m n xs ys m_fits n_fits fits x_small.1 y_small.1)
+mul_asked m n _ _ m_fits n_fits fits x_small y_small = tt
 
 -- the bits of the products are those of the products as numbers
 pub mul_bits : (m n : ℕ) (xs ys : List ℤ) → m < 2 ^ 63 → n < 2 ^ 63 → Each1 (WithinLane m) xs → Each1 (WithinLane n) ys →
     zip2 (act2 (mul signed) (s_int w64) (s_int w64) (s_int w64)) (map (of_z w64) xs) (map (of_z w64) ys) ≡ map (of_z w64) (zip2 (λ a b. a *ℤ b) xs ys)
-mul_bits m n [] ys m_fits n_fits x_small y_small = refl
-mul_bits m n (x ∷ xs) [] m_fits n_fits x_small y_small = refl
 mul_bits m n (x ∷ xs) (y ∷ ys) m_fits n_fits x_small y_small =
     let x_is = to_z-of_z w64 x (within_fits m x m_fits x_small.0) in
     let y_is = to_z-of_z w64 y (within_fits n y n_fits y_small.0) in
     let rest = mul_bits m n xs ys m_fits n_fits x_small.1 y_small.1 in
     rw (x_is, y_is, rest) refl
+mul_bits m n _ _ m_fits n_fits x_small y_small = refl
 
 add_asked : (m n : ℕ) (xs ys : List ℤ) → m < 2 ^ 63 → n < 2 ^ 63 → m + n < 2 ^ 63 → Each1 (WithinLane m) xs → Each1 (WithinLane n) ys →
     Each2 (Asks2 (add signed) (s_int w64) (s_int w64)) (map (of_z w64) xs) (map (of_z w64) ys)
-add_asked m n [] ys m_fits n_fits fits x_small y_small = tt
-add_asked m n (x ∷ xs) [] m_fits n_fits fits x_small y_small = tt
 add_asked m n (x ∷ xs) (y ∷ ys) m_fits n_fits fits x_small y_small =
     let x_is = to_z-of_z w64 x (within_fits m x m_fits x_small.0) in
     let y_is = to_z-of_z w64 y (within_fits n y n_fits y_small.0) in
     (rw (x_is, y_is) (within_fits (m + n) (x +ℤ y) fits (sum_within m n x y x_small.0 y_small.0)), add_asked m n xs ys m_fits n_fits fits x_small.1 y_small.1)
+add_asked m n _ _ m_fits n_fits fits x_small y_small = tt
 
 add_bits : (m n : ℕ) (xs ys : List ℤ) → m < 2 ^ 63 → n < 2 ^ 63 → Each1 (WithinLane m) xs → Each1 (WithinLane n) ys →
     zip2 (act2 (add signed) (s_int w64) (s_int w64) (s_int w64)) (map (of_z w64) xs) (map (of_z w64) ys) ≡ map (of_z w64) (zip2 (λ a b. a +ℤ b) xs ys)
-add_bits m n [] ys m_fits n_fits x_small y_small = refl
-add_bits m n (x ∷ xs) [] m_fits n_fits x_small y_small = refl
 add_bits m n (x ∷ xs) (y ∷ ys) m_fits n_fits x_small y_small =
     let x_is = to_z-of_z w64 x (within_fits m x m_fits x_small.0) in
     let y_is = to_z-of_z w64 y (within_fits n y n_fits y_small.0) in
     let rest = add_bits m n xs ys m_fits n_fits x_small.1 y_small.1 in
     rw (x_is, y_is, rest) refl
+add_bits m n _ _ m_fits n_fits x_small y_small = refl
 
 pub lanes_back : (m : ℕ) (xs : List ℤ) → m < 2 ^ 63 → Each1 (WithinLane m) xs → map (to_z w64) (map (of_z w64) xs) ≡ xs
-lanes_back m [] fits small = refl
-lanes_back m (x ∷ xs) fits small =
-    let first = to_z-of_z w64 x (within_fits m x fits small.0) in
-    let rest = lanes_back m xs fits small.1 in
-    cc
+lanes_back m xs fits small = signed_back w64 xs (each_fits m xs fits small)
+
+-- four lanes that were passed on
+abbrev pub passed_wide : List ℤ → List ℤ
+passed_wide xs = map (to_z w64) (map (of_z w64) xs)
+
+pub wide_back : (m : ℕ) (xs : List ℤ) → m < 2 ^ 63 → LanesWithin m xs → passed_wide xs ≡ xs
+wide_back m xs fits small = lanes_back m xs fits small.small
+
+pub wide-within : (m : ℕ) (xs : List ℤ) → m < 2 ^ 63 → LanesWithin m xs → LanesWithin m (passed_wide xs)
+wide-within m xs fits small = rw (wide_back m xs fits small) small
 
 pub products_within : (m n : ℕ) (xs ys : List ℤ) → Each1 (WithinLane m) xs → Each1 (WithinLane n) ys → Each1 (WithinLane (m * n)) (zip2 (λ a b. a *ℤ b) xs ys)
-products_within m n [] ys x_small y_small = tt
-products_within m n (x ∷ xs) [] x_small y_small = tt
 products_within m n (x ∷ xs) (y ∷ ys) x_small y_small = (product_within m n x y x_small.0 y_small.0, products_within m n xs ys x_small.1 y_small.1)
+products_within m n _ _ x_small y_small = tt
 
 sums_within : (m n : ℕ) (xs ys : List ℤ) → Each1 (WithinLane m) xs → Each1 (WithinLane n) ys → Each1 (WithinLane (m + n)) (zip2 (λ a b. a +ℤ b) xs ys)
-sums_within m n [] ys x_small y_small = tt
-sums_within m n (x ∷ xs) [] x_small y_small = tt
 sums_within m n (x ∷ xs) (y ∷ ys) x_small y_small = (sum_within m n x y x_small.0 y_small.0, sums_within m n xs ys x_small.1 y_small.1)
+sums_within m n _ _ x_small y_small = tt
 
 pub wider : (m n : ℕ) (xs : List ℤ) → m ≤ n → Each1 (WithinLane m) xs → Each1 (WithinLane n) xs
 wider m n [] le small = tt
@@ -109,16 +105,14 @@ wider m n (x ∷ xs) le small = (omega arith, wider m n xs le small.1)
 
 lane_sum-add : (xs ys : List ℤ) → length xs ≡ length ys → lane_sum (zip2 (λ a b. a +ℤ b) xs ys) ≡ (lane_sum xs +ℤ lane_sum ys)
 lane_sum-add [] [] same = refl
-lane_sum-add [] (y ∷ ys) same = absurd (omega arith)
-lane_sum-add (x ∷ xs) [] same = absurd (omega arith)
 lane_sum-add (x ∷ xs) (y ∷ ys) same =
     let rest = lane_sum-add xs ys (omega arith) in
     omega (arith, ints)
+lane_sum-add _ _ same = absurd (omega arith)
 
 lane_sum-products : (xs ys : List ℤ) → lane_sum (zip2 (λ a b. a *ℤ b) xs ys) ≡ sum_of_products xs ys
-lane_sum-products [] ys = refl
-lane_sum-products (x ∷ xs) [] = refl
 lane_sum-products (x ∷ xs) (y ∷ ys) = ap (λ z. (x *ℤ y) +ℤ z) (lane_sum-products xs ys)
+lane_sum-products _ _ = refl
 
 pub lanes_are : (k m n : ℕ) (sums xs ys : List ℤ) → k < 2 ^ 63 → m < 2 ^ 63 → n < 2 ^ 63 → m * n < 2 ^ 63 → k + m * n < 2 ^ 63 → LanesWithin k sums → LanesWithin m xs → LanesWithin n ys →
     map (to_z w64) (zip2 (act2 (add signed) (s_int w64) (s_int w64) (s_int w64)) (map (of_z w64) sums) (zip2 (act2 (mul signed) (s_int w64) (s_int w64) (s_int w64)) (map (of_z w64) xs) (map (of_z w64) ys)))
@@ -156,12 +150,8 @@ kernel_small k l m n sums xs ys free sums_small x_small y_small =
 
 -- four lanes
 pub lane_sum-four : (xs : List ℤ) → length xs ≡ 4 → lane_sum xs ≡ ((get_or xs 0 (pos 0) +ℤ get_or xs 1 (pos 0)) +ℤ (get_or xs 2 (pos 0) +ℤ get_or xs 3 (pos 0)))
-lane_sum-four [] four = absurd (omega arith)
-lane_sum-four (a ∷ []) four = absurd (omega arith)
-lane_sum-four (a ∷ b ∷ []) four = absurd (omega arith)
-lane_sum-four (a ∷ b ∷ c ∷ []) four = absurd (omega arith)
 lane_sum-four (a ∷ b ∷ c ∷ d ∷ []) four = omega (arith, ints)
-lane_sum-four (a ∷ b ∷ c ∷ d ∷ e ∷ xs) four = absurd (omega arith)
+lane_sum-four _ four = absurd (omega arith)
 
 pub lane_sum-within : (m : ℕ) (xs : List ℤ) → Each1 (WithinLane m) xs → WithinLane (length xs * m) (lane_sum xs)
 lane_sum-within m [] small = omega arith
@@ -183,14 +173,10 @@ joined-mul x h l = mul-add x (h *ℤ pos 33554432) l ∙ ap (λ z. z +ℤ (x *�
 pub sum_of_products-joined : (xs hs ls : List ℤ) → length hs ≡ length xs → length ls ≡ length xs →
     sum_of_products xs (joined_lanes hs ls) ≡ joined (sum_of_products xs hs) (sum_of_products xs ls)
 sum_of_products-joined [] [] [] h_same l_same = refl
-sum_of_products-joined [] [] (l ∷ ls) h_same l_same = absurd (omega arith)
-sum_of_products-joined [] (h ∷ hs) ls h_same l_same = absurd (omega arith)
-sum_of_products-joined (x ∷ xs) [] ls h_same l_same = absurd (omega arith)
-sum_of_products-joined (x ∷ xs) (h ∷ hs) [] h_same l_same = absurd (omega arith)
 sum_of_products-joined (x ∷ xs) (h ∷ hs) (l ∷ ls) h_same l_same =
     let rest = sum_of_products-joined xs hs ls (omega arith) (omega arith) in
-    let first = joined-mul x h l in
-    omega (arith, ints)
+    omega (arith, ints, joined-mul x h l)
+sum_of_products-joined _ _ _ h_same l_same = absurd (omega arith)
 
 pub sum_of_products-block : (xs cs : List ℤ) (at : ℕ) → at + 4 ≤ length xs → at + 4 ≤ length cs →
     sum_of_products (drop at xs) (drop at cs) ≡ (sum_of_products (chunk at 4 xs) (chunk at 4 cs) +ℤ sum_of_products (drop (at + 4) xs) (drop (at + 4) cs))
@@ -201,14 +187,11 @@ sum_of_products-block xs cs at in_xs in_cs =
     let xs_are = chunk-four xs at (pos 0) in_xs in
     let cs_are = chunk-four cs at (pos 0) in_cs in
     let block : sum_of_products (chunk at 4 xs) (chunk at 4 cs) ≡ sum_of_products (get_or xs at (pos 0) ∷ get_or xs (at + 1) (pos 0) ∷ get_or xs (at + 2) (pos 0) ∷ get_or xs (at + 3) (pos 0) ∷ []) (get_or cs at (pos 0) ∷ get_or cs (at + 1) (pos 0) ∷ get_or cs (at + 2) (pos 0) ∷ get_or cs (at + 3) (pos 0) ∷ []) = rw (xs_are, cs_are) refl in
-    let first = place xs cs at (omega arith) (omega arith) in
-    let second = rw two at (place xs cs (at + 1) (omega arith) (omega arith)) in
-    let third = rw three at (place xs cs (at + 2) (omega arith) (omega arith)) in
-    let fourth = rw four at (place xs cs (at + 3) (omega arith) (omega arith)) in
+    let first = sum_of_products-drop xs cs at (pos 0) (pos 0) (omega arith) (omega arith) in
+    let second = rw two at (sum_of_products-drop xs cs (at + 1) (pos 0) (pos 0) (omega arith) (omega arith)) in
+    let third = rw three at (sum_of_products-drop xs cs (at + 2) (pos 0) (pos 0) (omega arith) (omega arith)) in
+    let fourth = rw four at (sum_of_products-drop xs cs (at + 3) (pos 0) (pos 0) (omega arith) (omega arith)) in
     omega (arith, ints)
-  where
-    place : (xs cs : List ℤ) (i : ℕ) → i < length xs → i < length cs → sum_of_products (drop i xs) (drop i cs) ≡ (get_or xs i (pos 0) *ℤ get_or cs i (pos 0)) +ℤ sum_of_products (drop (i + 1) xs) (drop (i + 1) cs)
-    place xs cs i in_xs in_cs = rw (drop_more xs i (pos 0) in_xs, drop_more cs i (pos 0) in_cs) refl
 
 -- one block more in the two sums
 pub block_added : (whole rest high low next_high next_low block high_part low_part : ℤ) →
@@ -225,6 +208,4 @@ sum_of_products-parted (x ∷ xs) [] (suc n) = none (drop n xs)
     none : (l : List ℤ) → pos 0 ≡ (pos 0 +ℤ sum_of_products l [])
     none [] = refl
     none (a ∷ l) = refl
-sum_of_products-parted (x ∷ xs) (c ∷ cs) (suc n) =
-    let rest = sum_of_products-parted xs cs n in
-    omega (arith, ints)
+sum_of_products-parted (x ∷ xs) (c ∷ cs) (suc n) = omega (arith, ints, sum_of_products-parted xs cs n)

@@ -1,18 +1,18 @@
 -- Two steps of a transform at once, on quarters.
-use Rattle.std.proofs.Common.{subst, ◌≡◌, ◌+◌, ◌-◌, ◌*◌, ◌/◌, ◌^◌, ◌<◌, ◌≤◌, ◌∙◌, refl, ap, ℕ, zero, suc, ℤ, pos, neg_ℤ, ◌*ℤ◌, ◌+ℤ◌, List, [], ◌∷◌, ◌++◌, length, get_or, take, drop, arith}
-use Rattle.std.specs.Prelude.{◌-ℤ◌}
+use Rattle.std.proofs.Common.{subst, ◌≡◌, ◌+◌, ◌-◌, ◌*◌, ◌/◌, ◌^◌, ◌<◌, ◌≤◌, ◌∙◌, refl, ap, sym, ℕ, zero, suc, ℤ, pos, neg_ℤ, ◌*ℤ◌, ◌+ℤ◌, List, [], ◌∷◌, ◌++◌, length, get_or, take, drop, arith, ◌-ℤ◌, inl, inr}
 use Rattle.std.proofs.lemmas.Bool.{cases_lt}
 use Rattle.std.proofs.lemmas.Int.{ints}
 use Rattle.std.proofs.lemmas.Nat.{pow_below}
 use Rattle.std.proofs.lemmas.List.{length-append, length-drop, length-take-le, get_or_append_left, get_or-append-add, get_or-take, get_or-drop}
-use mathlib.Core.Logic.{inl, inr}
-use Rattle.fx_tap_sums.specs.Quarters.{difference_at, spread_at, sum_at}
-use Rattle.fx_tap_sums.specs.Residues.{AreFour, AreRemainders, IsModulus, Same, AreSame, inverse_of_word}
+use Rattle.fx_tap_sums.specs.Quarters.{difference_at, gather_first_at, gather_fourth_at, gather_second_at, gather_third_at, levels_at, spread_at, spread_first_at, spread_fourth_at, spread_second_at, spread_third_at, sum_at}
+use Rattle.fx_tap_sums.specs.Residues.{AreCongruent, AreFour, AreRemainders, IsModulus, Same, AreSame, inverse_of_word}
+use Rattle.fx_tap_sums.specs.Leaves.{AreLeaves}
+use Rattle.fx_tap_sums.specs.Multiplying.{MultipliesBy}
 use Rattle.fx_tap_sums.specs.Transform.{AreRoots, IsTransform, IsProduct, root_at}
 use Rattle.fx_tap_sums.proofs.Numbers.{neg-mul}
 use Rattle.fx_tap_sums.proofs.Residues.{same_on, same_add, same_is, same_mul, same_negated, same_sym}
 use Rattle.fx_tap_sums.proofs.Steps.{Halved, halved, place_less, product_of_halves}
-use Rattle.fx_tap_sums.proofs.Writes.{remainders_drop, remainders_take, remainders_wider}
+use Rattle.fx_tap_sums.proofs.Writes.{remainders_both, remainders_drop, remainders_take, remainders_wider}
 
 -- ---- lists of a level that is in no memory
 
@@ -28,10 +28,9 @@ length-weighed by r (x ∷ xs) [] long = absurd (omega arith)
 length-weighed by r (x ∷ xs) (y ∷ ys) long = ap suc (length-weighed by r xs ys (omega arith))
 
 pub at_weighed : (by r : ℕ) (xs ys : List ℕ) (i : ℕ) → length xs ≡ length ys → i < length xs → get_or (weighed by r xs ys) i 0 ≡ by * (get_or xs i 0 + r * get_or ys i 0)
-at_weighed by r [] ys i long lt = absurd (omega arith)
-at_weighed by r (x ∷ xs) [] i long lt = absurd (omega arith)
 at_weighed by r (x ∷ xs) (y ∷ ys) zero long lt = refl
 at_weighed by r (x ∷ xs) (y ∷ ys) (suc i) long lt = at_weighed by r xs ys i (omega arith) (omega arith)
+at_weighed by r _ _ _ long lt = absurd (omega arith)
 
 -- one less than the modulus is -1
 pub same_opposite : (p y : ℕ) → 0 < p → Same (pos p) (pos ((p - 1) * y)) (neg_ℤ (pos y))
@@ -160,9 +159,40 @@ of_both q P xs ys us vs ss ts x_long y_long u_long s_long first second i lt = el
       rw place at there
 ]
 
--- quarters of a list of remainders
-pub quarters_are : (b m q : ℕ) (v low high one two three four : List ℕ) → Quarters m q v low high one two three four → length v ≡ 2 * m → m ≡ 2 * q → AreRemainders b v →
-    AreRemainders b one × (AreRemainders b two × (AreRemainders b three × AreRemainders b four))
+-- four lists of one length
+pub record EachLong (q : ℕ) (one two three four : List ℕ) : Type 0 where
+  pub first : length one ≡ q
+  pub second : length two ≡ q
+  pub third : length three ≡ q
+  pub fourth : length four ≡ q
+
+pub quarters_long : (m q : ℕ) (v low high one two three four : List ℕ) → Quarters m q v low high one two three four → length v ≡ 2 * m → m ≡ 2 * q → EachLong q one two three four
+quarters_long m q v low high one two three four of long twice =
+    let front = length-take-le m v (omega arith) in
+    let back = length-drop m v in
+    let low_long : length low ≡ 2 * q = rw of.front (omega arith) in
+    let high_long : length high ≡ 2 * q = rw of.back (omega arith) in
+    let second = length-drop q low in
+    let fourth = length-drop q high in
+    record {
+      first = rw of.first (length-take-le q low (omega arith));
+      second = rw of.second (omega arith);
+      third = rw of.third (length-take-le q high (omega arith));
+      fourth = rw of.fourth (omega arith);
+    }
+
+-- as long as others are
+pub as_long : (q : ℕ) (one two three four x1 x2 x3 x4 : List ℕ) → EachLong q one two three four → length x1 ≡ length one → length x2 ≡ length two → length x3 ≡ length three → length x4 ≡ length four → EachLong q x1 x2 x3 x4
+as_long q one two three four x1 x2 x3 x4 long first second third fourth = record { first = first ∙ long.first; second = second ∙ long.second; third = third ∙ long.third; fourth = fourth ∙ long.fourth }
+
+-- four lists of remainders
+pub record EachLess (b : ℕ) (one two three four : List ℕ) : Type 0 where
+  pub first : AreRemainders b one
+  pub second : AreRemainders b two
+  pub third : AreRemainders b three
+  pub fourth : AreRemainders b four
+
+pub quarters_are : (b m q : ℕ) (v low high one two three four : List ℕ) → Quarters m q v low high one two three four → length v ≡ 2 * m → m ≡ 2 * q → AreRemainders b v → EachLess b one two three four
 quarters_are b m q v low high one two three four of long twice are =
     let front = length-take-le m v (omega arith) in
     let back = length-drop m v in
@@ -170,43 +200,51 @@ quarters_are b m q v low high one two three four of long twice are =
     let high_are : AreRemainders b high = rw of.back (remainders_drop b m v are) in
     let low_long : q ≤ length low = rw of.front (omega arith) in
     let high_long : q ≤ length high = rw of.back (omega arith) in
-    (rw of.first (remainders_take b q low low_long low_are), (rw of.second (remainders_drop b q low low_are), (rw of.third (remainders_take b q high high_long high_are), rw of.fourth (remainders_drop b q high high_are))))
+    record {
+      first = rw of.first (remainders_take b q low low_long low_are);
+      second = rw of.second (remainders_drop b q low low_are);
+      third = rw of.third (remainders_take b q high high_long high_are);
+      fourth = rw of.fourth (remainders_drop b q high high_are);
+    }
+
+pub joined_less : (b : ℕ) (one two three four : List ℕ) → EachLess b one two three four → AreRemainders b ((one ++ two) ++ (three ++ four))
+joined_less b one two three four less = remainders_both b (one ++ two) (three ++ four) (remainders_both b one two less.first less.second) (remainders_both b three four less.third less.fourth)
 
 -- quarters of remainders below eighteen times a modulus fit two steps
 pub quarters_fit : (p m q : ℕ) (v low high one two three four : List ℕ) → IsModulus p → Quarters m q v low high one two three four → length v ≡ 2 * m → m ≡ 2 * q → AreRemainders (18 * p) v →
     AreRemainders (2 ^ 32 - 4 * p) one × (AreRemainders (2 ^ 32 - 4 * p) two × (AreRemainders (2 ^ 32) three × AreRemainders (2 ^ 32) four))
 quarters_fit p m q v low high one two three four modulus of long twice are =
-    let less : AreRemainders (2 ^ 32 - 4 * p) v = remainders_wider (18 * p) (2 ^ 32 - 4 * p) v (omega (arith, modulus)) are in
-    let fits : AreRemainders (2 ^ 32) v = remainders_wider (18 * p) (2 ^ 32) v (omega (arith, modulus)) are in
-    let front = quarters_are (2 ^ 32 - 4 * p) m q v low high one two three four of long twice less in
-    let back = quarters_are (2 ^ 32) m q v low high one two three four of long twice fits in
-    (front.0, (front.1.0, (back.1.1.0, back.1.1.1)))
+    let front = quarters_are (2 ^ 32 - 4 * p) m q v low high one two three four of long twice (remainders_wider (18 * p) (2 ^ 32 - 4 * p) v (omega (arith, modulus)) are) in
+    let back = quarters_are (2 ^ 32) m q v low high one two three four of long twice (remainders_wider (18 * p) (2 ^ 32) v (omega (arith, modulus)) are) in
+    (front.first, (front.second, (back.third, back.fourth)))
 
 -- u is the product, over 2^32, of the numbers x and those whose transform is f, at a place of the table
 abbrev pub Multiplies : ℕ → List ℕ → ℕ → ℕ → ℕ → List ℕ → List ℕ → List ℕ → Type 0
 Multiplies p roots k m place x f u = (s : ℤ) (a h : List ℤ) → Same (pos p) (root_at roots place *ℤ root_at roots place) s → length a ≡ m → length h ≡ m → AreSame p x a → IsTransform p roots k place h f → IsProduct p (2 ^ k) (2 ^ k * inverse_of_word p) s a h u
 
+-- as it comes of a table of leaves
+pub multiplies_by : (p levels m place : ℕ) (roots leaves f x u : List ℕ) → length x ≡ m → MultipliesBy p levels roots place leaves x u → AreLeaves p roots (2 ^ (levels - 1) * (place + 1) - 1) f leaves → Multiplies p roots levels m place x f u
+multiplies_by p levels m place roots leaves f x u long product are = λ s a h square a_long h_long same transform. product s a h f square (a_long ∙ sym long) (h_long ∙ sym long) same transform are
+
 -- a step of two levels, the products of the quarters by those of a transform, and the step back make the product of the whole
 pub product_of_quarters : (p levels n k m j q place : ℕ) (roots inverses v low high one two three four f front back f1 f2 f3 f4 x1 x2 x3 x4 u1 u2 u3 u4 w1 w2 w3 w4 : List ℕ) →
     0 < p → Halved levels n k m → Halved k m j q → AreRoots p roots inverses → place < 128 →
     length v ≡ n → Quarters m q v low high one two three four → Quarters m q f front back f1 f2 f3 f4 →
-    length x1 ≡ q → length x2 ≡ q → length x3 ≡ q → length x4 ≡ q →
-    length u1 ≡ q → length u2 ≡ q → length u3 ≡ q → length u4 ≡ q →
-    length w1 ≡ q → length w2 ≡ q → length w3 ≡ q → length w4 ≡ q →
-    ((i : ℕ) → i < length x1 → Same (pos p) (pos (get_or x1 i 0)) (spread_at (root_at roots place) one three i +ℤ (root_at roots (2 * place) *ℤ spread_at (root_at roots place) two four i))) →
-    ((i : ℕ) → i < length x1 → Same (pos p) (pos (get_or x2 i 0)) (spread_at (root_at roots place) one three i +ℤ (neg_ℤ (root_at roots (2 * place)) *ℤ spread_at (root_at roots place) two four i))) →
-    ((i : ℕ) → i < length x1 → Same (pos p) (pos (get_or x3 i 0)) (spread_at (neg_ℤ (root_at roots place)) one three i +ℤ (root_at roots (2 * place + 1) *ℤ spread_at (neg_ℤ (root_at roots place)) two four i))) →
-    ((i : ℕ) → i < length x1 → Same (pos p) (pos (get_or x4 i 0)) (spread_at (neg_ℤ (root_at roots place)) one three i +ℤ (neg_ℤ (root_at roots (2 * place + 1)) *ℤ spread_at (neg_ℤ (root_at roots place)) two four i))) →
+    EachLong q x1 x2 x3 x4 → EachLong q u1 u2 u3 u4 → EachLong q w1 w2 w3 w4 →
+    AreCongruent p (length x1) x1 (spread_first_at (levels_at roots place) one two three four) →
+    AreCongruent p (length x1) x2 (spread_second_at (levels_at roots place) one two three four) →
+    AreCongruent p (length x1) x3 (spread_third_at (levels_at roots place) one two three four) →
+    AreCongruent p (length x1) x4 (spread_fourth_at (levels_at roots place) one two three four) →
     Multiplies p roots j q (2 * (2 * place)) x1 f4 u1 →
     Multiplies p roots j q (2 * (2 * place) + 1) x2 f3 u2 →
     Multiplies p roots j q (2 * (2 * place + 1)) x3 f2 u3 →
     Multiplies p roots j q (2 * (2 * place + 1) + 1) x4 f1 u4 →
-    ((i : ℕ) → i < length w1 → Same (pos p) (pos (get_or w1 i 0)) (sum_at u1 u2 i +ℤ sum_at u3 u4 i)) →
-    ((i : ℕ) → i < length w1 → Same (pos p) (pos (get_or w2 i 0)) (difference_at (root_at inverses (2 * place)) u1 u2 i +ℤ difference_at (root_at inverses (2 * place + 1)) u3 u4 i)) →
-    ((i : ℕ) → i < length w1 → Same (pos p) (pos (get_or w3 i 0)) (root_at inverses place *ℤ (sum_at u1 u2 i -ℤ sum_at u3 u4 i))) →
-    ((i : ℕ) → i < length w1 → Same (pos p) (pos (get_or w4 i 0)) (root_at inverses place *ℤ (difference_at (root_at inverses (2 * place)) u1 u2 i -ℤ difference_at (root_at inverses (2 * place + 1)) u3 u4 i))) →
+    AreCongruent p (length w1) w1 (gather_first_at u1 u2 u3 u4) →
+    AreCongruent p (length w1) w2 (gather_second_at (levels_at inverses place) u1 u2 u3 u4) →
+    AreCongruent p (length w1) w3 (gather_third_at (levels_at inverses place) u1 u2 u3 u4) →
+    AreCongruent p (length w1) w4 (gather_fourth_at (levels_at inverses place) u1 u2 u3 u4) →
     Multiplies p roots levels n place v f ((w1 ++ w2) ++ (w3 ++ w4))
-product_of_quarters p levels n k m j q place roots inverses v low high one two three four f front back f1 f2 f3 f4 x1 x2 x3 x4 u1 u2 u3 u4 w1 w2 w3 w4 some half quarter are less v_long of_v of_f x1_long x2_long x3_long x4_long u1_long u2_long u3_long u4_long w1_long w2_long w3_long w4_long spread1 spread2 spread3 spread4 product1 product2 product3 product4 gather1 gather2 gather3 gather4 =
+product_of_quarters p levels n k m j q place roots inverses v low high one two three four f front back f1 f2 f3 f4 x1 x2 x3 x4 u1 u2 u3 u4 w1 w2 w3 w4 some half quarter are less v_long of_v of_f x_long u_long w_long spread1 spread2 spread3 spread4 product1 product2 product3 product4 gather1 gather2 gather3 gather4 =
     let root : ℕ = get_or roots place 0 in
     let left : ℕ = get_or roots (2 * place) 0 in
     let right : ℕ = get_or roots (2 * place + 1) 0 in
@@ -231,23 +269,23 @@ product_of_quarters p levels n k m j q place roots inverses v low high one two t
     let d34 : List ℕ = weighed right_inverse (p - 1) u3 u4 in
     let long12 : length u1 ≡ length u2 = omega arith in
     let long34 : length u3 ≡ length u4 = omega arith in
-    let s12_long : length s12 ≡ q = length-weighed 1 1 u1 u2 long12 ∙ u1_long in
-    let d12_long : length d12 ≡ q = length-weighed left_inverse (p - 1) u1 u2 long12 ∙ u1_long in
-    let s34_long : length s34 ≡ q = length-weighed 1 1 u3 u4 long34 ∙ u3_long in
-    let d34_long : length d34 ≡ q = length-weighed right_inverse (p - 1) u3 u4 long34 ∙ u3_long in
+    let s12_long : length s12 ≡ q = length-weighed 1 1 u1 u2 long12 ∙ u_long.first in
+    let d12_long : length d12 ≡ q = length-weighed left_inverse (p - 1) u1 u2 long12 ∙ u_long.first in
+    let s34_long : length s34 ≡ q = length-weighed 1 1 u3 u4 long34 ∙ u_long.third in
+    let d34_long : length d34 ≡ q = length-weighed right_inverse (p - 1) u3 u4 long34 ∙ u_long.third in
     let s12_is : (i : ℕ) → i < q → Same (pos p) (pos (get_or s12 i 0)) (sum_at u1 u2 i) = λ i lt. weighed_sum p u1 u2 i long12 (omega arith) in
     let d12_is : (i : ℕ) → i < q → Same (pos p) (pos (get_or d12 i 0)) (difference_at (pos left_inverse) u1 u2 i) = λ i lt. weighed_difference p left_inverse u1 u2 i some long12 (omega arith) in
     let s34_is : (i : ℕ) → i < q → Same (pos p) (pos (get_or s34 i 0)) (sum_at u3 u4 i) = λ i lt. weighed_sum p u3 u4 i long34 (omega arith) in
     let d34_is : (i : ℕ) → i < q → Same (pos p) (pos (get_or d34 i 0)) (difference_at (pos right_inverse) u3 u4 i) = λ i lt. weighed_difference p right_inverse u3 u4 i some long34 (omega arith) in
     let first : Multiplies p roots k m (2 * place) plus back (s12 ++ d12) =
     product_of_halves p k m j q (2 * place) left left_inverse roots inverses plus back (take q plus) (drop q plus) f3 f4 x1 x2 u1 u2 s12 d12
-    quarter are (omega arith) refl refl (omega arith) refl refl of_f.third of_f.fourth x1_long x2_long s12_long
+    quarter are (omega arith) refl refl (omega arith) refl refl of_f.third of_f.fourth x_long.first x_long.second s12_long
     (λ i lt. second_level p m q (pos root) (pos left) v low high one two three four plus x1 of_v low_long high_long plus_long plus_is (λ i lt. spread1 i (omega arith)) i (omega arith))
     (λ i lt. second_level p m q (pos root) (neg_ℤ (pos left)) v low high one two three four plus x2 of_v low_long high_long plus_long plus_is (λ i lt. spread2 i (omega arith)) i (omega arith))
     product1 product2 (λ i lt. s12_is i (omega arith)) (λ i lt. d12_is i (omega arith)) in
     let second : Multiplies p roots k m (2 * place + 1) minus front (s34 ++ d34) =
     product_of_halves p k m j q (2 * place + 1) right right_inverse roots inverses minus front (take q minus) (drop q minus) f1 f2 x3 x4 u3 u4 s34 d34
-    quarter are (omega arith) refl refl (omega arith) refl refl of_f.first of_f.second x3_long x4_long s34_long
+    quarter are (omega arith) refl refl (omega arith) refl refl of_f.first of_f.second x_long.third x_long.fourth s34_long
     (λ i lt. second_level p m q (neg_ℤ (pos root)) (pos right) v low high one two three four minus x3 of_v low_long high_long minus_long minus_is (λ i lt. spread3 i (omega arith)) i (omega arith))
     (λ i lt. second_level p m q (neg_ℤ (pos root)) (neg_ℤ (pos right)) v low high one two three four minus x4 of_v low_long high_long minus_long minus_is (λ i lt. spread4 i (omega arith)) i (omega arith))
     product3 product4 (λ i lt. s34_is i (omega arith)) (λ i lt. d34_is i (omega arith)) in
@@ -256,9 +294,9 @@ product_of_quarters p levels n k m j q place roots inverses v low high one two t
     half are (omega arith) refl refl v_long of_v.front of_v.back of_f.front of_f.back (omega arith) (omega arith) (omega arith)
     (λ i lt. plus_is i (omega arith)) (λ i lt. minus_is i (omega arith))
     first second
-    (λ i lt. of_both q (λ x u s. Same (pos p) (pos x) (pos u +ℤ pos s)) w1 w2 s12 d12 s34 d34 w1_long w2_long s12_long s34_long
+    (λ i lt. of_both q (λ x u s. Same (pos p) (pos x) (pos u +ℤ pos s)) w1 w2 s12 d12 s34 d34 w_long.first w_long.second s12_long s34_long
     (λ i lt. sum_from (pos p) (pos (get_or w1 i 0)) (sum_at u1 u2 i) (sum_at u3 u4 i) (pos (get_or s12 i 0)) (pos (get_or s34 i 0)) (gather1 i (omega arith)) (same_sym (pos p) (pos (get_or s12 i 0)) (sum_at u1 u2 i) (s12_is i lt)) (same_sym (pos p) (pos (get_or s34 i 0)) (sum_at u3 u4 i) (s34_is i lt)))
     (λ i lt. sum_from (pos p) (pos (get_or w2 i 0)) (difference_at (pos left_inverse) u1 u2 i) (difference_at (pos right_inverse) u3 u4 i) (pos (get_or d12 i 0)) (pos (get_or d34 i 0)) (gather2 i (omega arith)) (same_sym (pos p) (pos (get_or d12 i 0)) (difference_at (pos left_inverse) u1 u2 i) (d12_is i lt)) (same_sym (pos p) (pos (get_or d34 i 0)) (difference_at (pos right_inverse) u3 u4 i) (d34_is i lt))) i (omega arith))
-    (λ i lt. of_both q (λ x u s. Same (pos p) (pos x) (pos inverse *ℤ (pos u -ℤ pos s))) w3 w4 s12 d12 s34 d34 w3_long w4_long s12_long s34_long
+    (λ i lt. of_both q (λ x u s. Same (pos p) (pos x) (pos inverse *ℤ (pos u -ℤ pos s))) w3 w4 s12 d12 s34 d34 w_long.third w_long.fourth s12_long s34_long
     (λ i lt. difference_from (pos p) (pos (get_or w3 i 0)) (pos inverse) (sum_at u1 u2 i) (sum_at u3 u4 i) (pos (get_or s12 i 0)) (pos (get_or s34 i 0)) (gather3 i (omega arith)) (same_sym (pos p) (pos (get_or s12 i 0)) (sum_at u1 u2 i) (s12_is i lt)) (same_sym (pos p) (pos (get_or s34 i 0)) (sum_at u3 u4 i) (s34_is i lt)))
     (λ i lt. difference_from (pos p) (pos (get_or w4 i 0)) (pos inverse) (difference_at (pos left_inverse) u1 u2 i) (difference_at (pos right_inverse) u3 u4 i) (pos (get_or d12 i 0)) (pos (get_or d34 i 0)) (gather4 i (omega arith)) (same_sym (pos p) (pos (get_or d12 i 0)) (difference_at (pos left_inverse) u1 u2 i) (d12_is i lt)) (same_sym (pos p) (pos (get_or d34 i 0)) (difference_at (pos right_inverse) u3 u4 i) (d34_is i lt))) i (omega arith))

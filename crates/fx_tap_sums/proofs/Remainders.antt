@@ -1,6 +1,5 @@
 -- Numbers by their remainders modulo the three primes.
-use Rattle.std.proofs.Common.{◌≡◌, ◌+◌, ◌-◌, ◌*◌, ◌^◌, ◌<◌, ◌≤◌, ℕ, arith, refl, ℤ, pos, neg_ℤ, ◌*ℤ◌, ◌+ℤ◌, unsigned_abs, to_z, of_z, w64}
-use Rattle.std.specs.Prelude.{◌-ℤ◌}
+use Rattle.std.proofs.Common.{◌≡◌, ◌+◌, ◌-◌, ◌*◌, ◌^◌, ◌<◌, ◌≤◌, ℕ, arith, refl, ℤ, pos, neg_ℤ, ◌*ℤ◌, ◌+ℤ◌, unsigned_abs, to_z, of_z, w64, ◌-ℤ◌}
 use Rattle.std.proofs.lemmas.Int.{ints}
 use Rattle.fx_tap_sums.specs.Residues.{Same}
 use Rattle.fx_tap_sums.proofs.SmallSums.{held-in-64}
@@ -13,12 +12,9 @@ pairs_in first second turns x less one two by =
     let a = one.0 in
     let b = two.0 in
     let e = by.0 in
-    let one_is = one.1 in
-    let two_is = two.1 in
-    let by_is = by.1 in
     let n : ℤ = pos (second + (8 * 135135233 - first)) in
     let z : ℤ = ((b +ℤ pos 8) +ℤ (pos 111957505 *ℤ n)) +ℤ (pos 134348801 *ℤ e) in
-    (neg_ℤ ((pos 22391296 *ℤ (pos turns +ℤ a)) -ℤ (pos 22522367 *ℤ z)), omega (arith, ints))
+    (neg_ℤ ((pos 22391296 *ℤ (pos turns +ℤ a)) -ℤ (pos 22522367 *ℤ z)), omega (arith, ints, one.1, two.1, by.1))
 
 -- the multiple is small, where the number is
 pairs_small : (first turns : ℕ) (x k : ℤ) → first < 4 * 134348801 → turns < 135135233 → unsigned_abs x ≤ 2 ^ 61
@@ -38,20 +34,11 @@ pairs_is first third turns whole by pairs x k less below is third_same whole_sam
     let f = whole_same.0 in
     let h = by_same.0 in
     let m = pairs_same.0 in
-    let third_is = third_same.1 in
-    let whole_is = whole_same.1 in
-    let by_is = by_same.1 in
-    let pairs_eq = pairs_same.1 in
-    (((((((pos 69670237 *ℤ pos turns) +ℤ (pos 9414903785235465 *ℤ k)) +ℤ (pos 70689802 *ℤ (g +ℤ pos 8))) +ℤ f) +ℤ pos 1) -ℤ h) +ℤ m, omega (arith, ints))
+    (((((((pos 69670237 *ℤ pos turns) +ℤ (pos 9414903785235465 *ℤ k)) +ℤ (pos 70689802 *ℤ (g +ℤ pos 8))) +ℤ f) +ℤ pos 1) -ℤ h) +ℤ m, omega (arith, ints, third_same.1, whole_same.1, by_same.1, pairs_same.1))
 
 -- a small number is determined by one remainder
 determined_once : (c k : ℤ) (pairs : ℕ) → unsigned_abs c ≤ 68157440 → unsigned_abs k ≤ 200 → Same (pos 136314881) c (pos pairs) → Same (pos 136314881) (pos pairs) k → c ≡ k
-determined_once c k pairs small k_small near same =
-    let m = near.0 in
-    let e = same.0 in
-    let near_is = near.1 in
-    let same_is = same.1 in
-    omega (arith, ints)
+determined_once c k pairs small k_small near same = omega (arith, ints, near.1, same.1)
 
 -- so the number is determined by the remainders
 pub three_is : (first second third turns whole by pairs : ℕ) (centred x : ℤ) → first < 4 * 134348801 → turns < 135135233 → by < 136314881 → unsigned_abs centred ≤ 68157440 → unsigned_abs x ≤ 2 ^ 61

@@ -1,11 +1,10 @@
 -- Numbers that are the same modulo another one.
-use Rattle.std.proofs.Common.{◌≡◌, ◌+◌, ◌-◌, ◌*◌, ◌/◌, ◌%◌, ◌^◌, ◌<◌, ℕ, ap, sym, arith, ℤ, pos, neg_ℤ, ◌*ℤ◌, ◌+ℤ◌, unsigned_abs, w32}
+use Rattle.std.proofs.Common.{◌≡◌, ◌+◌, ◌-◌, ◌*◌, ◌/◌, ◌%◌, ◌^◌, ◌<◌, ℕ, ap, sym, arith, ℤ, pos, neg_ℤ, ◌*ℤ◌, ◌+ℤ◌, unsigned_abs, w32, ◌-ℤ◌, FitsSigned}
 use Rattle.std.proofs.Math.IntN.{*ℤ_comm}
-use Rattle.std.specs.Prelude.{FitsSigned}
 use Rattle.std.proofs.lemmas.Int.{ints}
 use borrow.Author.Differences.{product_is}
 use Rattle.fx_tap_sums.specs.Residues.{Same}
-use Rattle.fx_tap_sums.proofs.Numbers.{mul-add, mul-neg, mul_swap}
+use Rattle.fx_tap_sums.proofs.Numbers.{mul-add, mul-neg, mul_swap, neg-mul}
 
 pub same_refl : (p a : ℤ) → Same p a a
 same_refl p a = let z = product_is p (pos 0) in (pos 0, omega (arith, ints))
@@ -71,3 +70,15 @@ same_negated p a b h =
 
 pub same_product : (p a b c d : ℤ) → Same p a b → Same p c d → Same p (a *ℤ c) (b *ℤ d)
 same_product p a b c d h g = same_on p (a *ℤ c) (b *ℤ c) (b *ℤ d) (same_times p c a b h) (same_mul p b c d g)
+
+-- a sum with the same number
+pub same_added : (p a b c : ℤ) → Same p b c → Same p (a +ℤ b) (a +ℤ c)
+same_added p a b c h = same_add p a a b c (same_refl p a) h
+
+-- a product with what an opposite makes of a difference
+pub times_apart : (p w a b less z : ℤ) → Same p z (w *ℤ (a +ℤ less)) → Same p less (neg_ℤ b) → Same p z (w *ℤ (a -ℤ b))
+times_apart p w a b less z product opposite = same_on p z (w *ℤ (a +ℤ less)) (w *ℤ (a -ℤ b)) product (same_mul p w (a +ℤ less) (a -ℤ b) (same_added p a less (neg_ℤ b) opposite))
+
+-- the opposite of a product
+pub minus_times : (p r b part less : ℤ) → Same p less (neg_ℤ part) → Same p part (r *ℤ b) → Same p less (neg_ℤ r *ℤ b)
+minus_times p r b part less opposite product = rw (neg-mul r b) (same_on p less (neg_ℤ part) (neg_ℤ (r *ℤ b)) opposite (same_negated p part (r *ℤ b) product))

@@ -1,13 +1,11 @@
 -- The remainders of samples of 32 bits: a sample less the multiple of the modulus whose number is that of the nearest multiple of
 -- 2^27.
-use Rattle.std.proofs.Common.{◌≡◌, ◌+◌, ◌*◌, ◌%◌, ◌<◌, ◌≤◌, ◌^◌, ◌∙◌, ap, sym, refl, ℕ, arith, rules, ℤ, pos, negsuc, neg_ℤ, ◌*ℤ◌, ◌+ℤ◌, to_z, of_z, w32, unsigned_abs, Fits}
-use Rattle.std.specs.Prelude.{◌-ℤ◌, ◌≤ℤ◌}
+use Rattle.std.proofs.Common.{◌≡◌, ◌+◌, ◌*◌, ◌%◌, ◌<◌, ◌≤◌, ◌^◌, ◌∙◌, ap, sym, refl, ℕ, arith, rules, ℤ, pos, negsuc, neg_ℤ, ◌*ℤ◌, ◌+ℤ◌, to_z, of_z, w32, unsigned_abs, Fits, ◌-ℤ◌, ◌≤ℤ◌, SFits}
 use Rattle.std.specs.Int.{int_wrap}
 use Rattle.std.proofs.Math.IntN.{*ℤ_comm}
 use Rattle.std.proofs.lemmas.Int.{ints, fits_signed_from_abs, int_wrap_fits, int_wrap-add_right, to_z-of_z, to_z_pos, wrapping_add-bits, wrapping_mul-bits}
 use lib.Dec.{T}
 use lib.Signed.{shr_z, non_neg}
-use mir.Val.{SFits}
 use Rattle.fx_tap_sums.specs.Residues.{Same}
 use Rattle.fx_tap_sums.proofs.Magnitudes.{scaled-bound}
 use Rattle.fx_tap_sums.proofs.Numbers.{add-mul, mul-add, neg-mul, one-times}
@@ -31,9 +29,8 @@ two_parts (negsuc n) = (omega (arith, ints), omega (arith, ints))
 
 nearest_small : (z : ℤ) → SFits w32 z → unsigned_abs (nearest z) ≤ 16
 nearest_small z fits =
-    let half = half_small z fits in
     let two = two_parts (shr_z z 67108864 +ℤ pos 1) in
-    omega (arith, ints, half, two.0, two.1)
+    omega (arith, ints, half_small z fits, two.0, two.1)
 
 -- what the nearest multiple of 2^27 leaves
 rest_small : (z : ℤ) → (pos (unsigned_abs ((z -ℤ (pos 134217728 *ℤ nearest z)) +ℤ pos 67108864)) ≡ (z -ℤ (pos 134217728 *ℤ nearest z)) +ℤ pos 67108864) × (unsigned_abs ((z -ℤ (pos 134217728 *ℤ nearest z)) +ℤ pos 67108864) < 2 ^ 27)
@@ -57,10 +54,7 @@ parts_are p z t =
     let times = ap (λ v. t *ℤ v) whole in
     let parts = mul-add t d (pos 134217728) in
     let turned = *ℤ_comm t (pos 134217728) in
-    let sum = add-mul (pos 1) (neg_ℤ t) (pos p) in
-    let less = neg-mul t (pos p) in
-    let once = one-times (pos p) in
-    omega (arith, ints)
+    omega (arith, ints, add-mul (pos 1) (neg_ℤ t) (pos p), neg-mul t (pos p), one-times (pos p))
 
 range_parts : (p : ℕ) (r m : ℤ) → 2 ^ 27 < p → pos (unsigned_abs (r +ℤ pos 67108864)) ≡ r +ℤ pos 67108864 → unsigned_abs (r +ℤ pos 67108864) < 2 ^ 27 → unsigned_abs m ≤ 2 ^ 26
     → (pos (unsigned_abs ((r -ℤ m) +ℤ pos p)) ≡ (r -ℤ m) +ℤ pos p) × (unsigned_abs ((r -ℤ m) +ℤ pos p) < 2 * p)

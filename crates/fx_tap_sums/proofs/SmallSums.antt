@@ -1,7 +1,5 @@
 -- Sums of samples times small weights, in 64 bits.
-use Rattle.std.proofs.Common.{ℤ, ◌^◌, ◌<◌, ◌≤◌, ◌≡◌, ◌+ℤ◌, ◌*ℤ◌, refl, arith, to_z, of_z}
-use Rattle.std.specs.Prelude.{FitsSigned, unsigned_abs}
-use Rattle.std.specs.Int.{w64}
+use Rattle.std.proofs.Common.{ℤ, ◌^◌, ◌<◌, ◌≤◌, ◌≡◌, ◌+ℤ◌, ◌*ℤ◌, refl, arith, to_z, of_z, FitsSigned, unsigned_abs, w64}
 use Rattle.std.proofs.lemmas.Int.{fits_signed_from_abs, to_z-of_z}
 use Rattle.fx_tap_sums.proofs.Magnitudes.{added-bound, scaled-bound}
 
@@ -16,22 +14,17 @@ weighed-bound w x small sample = scaled-bound w x (2 ^ 27) (2 ^ 31) small sample
 pub plain-product : (w x f y : ℤ) → f ≡ w → y ≡ x → unsigned_abs w ≤ 2 ^ 27 → unsigned_abs x ≤ 2 ^ 31 → to_z w64 (of_z w64 f) *ℤ to_z w64 (of_z w64 y) ≡ w *ℤ x
 plain-product w x f y e d small sample = rw (e, d, held-in-64 w (omega (arith, small)), held-in-64 x (omega (arith, sample))) refl
 
--- a product added in 64 bits
-pub plain-small-sum : (s w x f y : ℤ) → f ≡ w → y ≡ x → unsigned_abs w ≤ 2 ^ 27 → unsigned_abs x ≤ 2 ^ 31 → unsigned_abs s ≤ 2 ^ 62
-    → to_z w64 (of_z w64 s) +ℤ to_z w64 (of_z w64 (to_z w64 (of_z w64 f) *ℤ to_z w64 (of_z w64 y))) ≡ s +ℤ (w *ℤ x)
-plain-small-sum s w x f y e d small sample free =
-    let product = weighed-bound w x small sample in
-    rw (e, d, held-in-64 s (omega (arith, free)), held-in-64 w (omega (arith, small)), held-in-64 x (omega (arith, sample)), held-in-64 (w *ℤ x) (omega (arith, product))) refl
+-- a small product added in 64 bits
+pub product-added : (s w x f y : ℤ) → f ≡ w → y ≡ x → unsigned_abs w < 2 ^ 63 → unsigned_abs x < 2 ^ 63 → unsigned_abs (w *ℤ x) ≤ 2 ^ 58 → unsigned_abs s ≤ 2 ^ 62 →
+    let z : ℤ = to_z w64 (of_z w64 s) +ℤ to_z w64 (of_z w64 (to_z w64 (of_z w64 f) *ℤ to_z w64 (of_z w64 y))) in FitsSigned w64 z × (to_z w64 (of_z w64 z) ≡ s +ℤ (w *ℤ x))
+product-added s w x f y e d small sample product free =
+    let maximum = added-bound s (w *ℤ x) _ _ free product in
+    rw (e, d, held-in-64 s (omega (arith, free)), held-in-64 w small, held-in-64 x sample, held-in-64 (w *ℤ x) (omega (arith, product)))
+    (fits_signed_from_abs w64 (s +ℤ (w *ℤ x)) (omega (arith, maximum)), held-in-64 (s +ℤ (w *ℤ x)) (omega (arith, maximum)))
 
 -- the same for larger samples and smaller weights
 pub wide-bound : (w x : ℤ) → unsigned_abs w ≤ 2 ^ 24 → unsigned_abs x ≤ 2 ^ 34 → unsigned_abs (w *ℤ x) ≤ 2 ^ 58
 wide-bound w x small sample = scaled-bound w x (2 ^ 24) (2 ^ 34) small sample
-
-pub plain-wide-sum : (s w x f : ℤ) → f ≡ w → unsigned_abs w ≤ 2 ^ 24 → unsigned_abs x ≤ 2 ^ 34 → unsigned_abs s ≤ 2 ^ 62
-    → to_z w64 (of_z w64 s) +ℤ to_z w64 (of_z w64 (to_z w64 (of_z w64 f) *ℤ to_z w64 (of_z w64 x))) ≡ s +ℤ (w *ℤ x)
-plain-wide-sum s w x f e small sample free =
-    let product = wide-bound w x small sample in
-    rw (e, held-in-64 s (omega (arith, free)), held-in-64 w (omega (arith, small)), held-in-64 x (omega (arith, sample)), held-in-64 (w *ℤ x) (omega (arith, product))) refl
 
 -- a sum and a product in 64 bits
 pub plain-added : (s p : ℤ) → unsigned_abs s ≤ 2 ^ 62 → unsigned_abs p ≤ 2 ^ 58 → (FitsSigned w64 (s +ℤ to_z w64 (of_z w64 p))) × (to_z w64 (of_z w64 (s +ℤ to_z w64 (of_z w64 p))) ≡ s +ℤ p)

@@ -1,12 +1,10 @@
 -- One step of a transform of 2^levels times four numbers, and what each half is.
-use Rattle.std.proofs.Common.{◌≡◌, ◌+◌, ◌-◌, ◌*◌, ◌/◌, ◌^◌, ◌<◌, ◌≤◌, ◌∙◌, refl, ℕ, zero, suc, ℤ, pos, neg_ℤ, ◌*ℤ◌, ◌+ℤ◌, List, [], ◌∷◌, ◌++◌, length, get_or, take, drop, arith}
-use Rattle.std.specs.Prelude.{◌-ℤ◌}
+use Rattle.std.proofs.Common.{◌≡◌, ◌+◌, ◌-◌, ◌*◌, ◌/◌, ◌^◌, ◌<◌, ◌≤◌, ◌∙◌, refl, ℕ, zero, suc, ℤ, pos, neg_ℤ, ◌*ℤ◌, ◌+ℤ◌, List, ◌∷◌, ◌++◌, length, get_or, take, drop, arith, ◌-ℤ◌, inl, inr}
 use Rattle.std.proofs.Math.Nat.{pow-suc}
 use Rattle.std.proofs.lemmas.Bool.{cases_lt}
 use Rattle.std.proofs.lemmas.Nat.{mul-le, pow_below, pow_pos}
 use Rattle.std.proofs.lemmas.Grind.{get_or_default_zero}
 use Rattle.std.proofs.lemmas.List.{length-drop, length-take-le, take-append-drop, take_at, drop_at, get_or_append_left, get_or-append-add, get_or-take, get_or-drop}
-use mathlib.Core.Logic.{inl, inr}
 use Rattle.fx_tap_sums.specs.Residues.{Same, AreRemainders, AreSame, IsModulus, inverse_of_word}
 use Rattle.fx_tap_sums.specs.Transform.{AreRoots, IsTransform, IsProduct, combined, root_at}
 use Rattle.fx_tap_sums.proofs.Residues.{same_on, same_add, same_mul}
@@ -35,21 +33,12 @@ halved (suc k) n is some =
 pub place_less : (place n minimum : ℕ) → minimum ≤ n → (place + 1) * n ≤ 4096 → (place + 1) * minimum ≤ 4096
 place_less place n minimum le bound =
     let self : place + 1 ≤ place + 1 = omega arith in
-    let more = mul-le (place + 1) minimum (place + 1) n self le in
-    omega arith
+    omega (arith, mul-le (place + 1) minimum (place + 1) n self le)
 
 pub eight_at_least : (levels n : ℕ) → n ≡ 4 * 2 ^ levels → 0 < levels → 8 ≤ n
 eight_at_least levels n is some =
     let half = halved levels n is some in
-    let minimum = pow_pos (levels - 1) in
-    omega (arith, half.power, half.twice, minimum)
-
-pub place_even : (levels n place : ℕ) → n ≡ 4 * 2 ^ levels → 0 < levels - 1 → (place + 1) * n ≤ 4096 → place < 256
-place_even levels n place is some bound =
-    let first = halved levels n is (omega arith) in
-    let rest = eight_at_least (levels - 1) (n / 2) first.power some in
-    let fit = place_less place n 16 (omega (arith, first.twice, rest)) bound in
-    omega arith
+    omega (arith, half.power, half.twice, pow_pos (levels - 1))
 
 pub levels_bound : (levels n place : ℕ) → n ≡ 4 * 2 ^ levels → (place + 1) * n ≤ 4096 → levels ≤ 10
 levels_bound levels n place is bound = elim (cases_lt 10 levels) [
@@ -84,11 +73,16 @@ halves_fit p m v low high modulus le front back are =
 pub read_at : (xs : List ℕ) (place v : ℕ) → place < length xs → v ≡ get_or xs place v → v ≡ get_or xs place 0
 read_at xs place v lt is = is ∙ get_or_default_zero xs place v lt
 
+-- the inverse of a root, both read from their tables
+pub inverse_read : (p : ℕ) (roots inverses : List ℕ) (place root inverse : ℕ) → AreRoots p roots inverses → place < 512 → length roots ≡ 512 → length inverses ≡ 512 → root ≡ get_or roots place root → inverse ≡ get_or inverses place inverse
+    → Same (pos p) (pos inverse *ℤ pos root) (pos 1)
+inverse_read p roots inverses place root inverse are less roots_long inverses_long root_is inverse_is =
+    rw (read_at roots place root (omega arith) root_is, read_at inverses place inverse (omega arith) inverse_is) (are.inverse place less)
+
 pub at_combined : (r : ℤ) (u v : List ℤ) (i : ℕ) → length u ≡ length v → i < length u → get_or (combined r u v) i (pos 0) ≡ get_or u i (pos 0) +ℤ (r *ℤ get_or v i (pos 0))
-at_combined r [] v i long lt = absurd (omega arith)
-at_combined r (x ∷ u) [] i long lt = absurd (omega arith)
 at_combined r (x ∷ u) (y ∷ v) zero long lt = refl
 at_combined r (x ∷ u) (y ∷ v) (suc i) long lt = at_combined r u v i (omega arith) (omega arith)
+at_combined r _ _ _ long lt = absurd (omega arith)
 
 -- ---- transforms
 

@@ -1,19 +1,17 @@
 -- Sums by products of three thirds: what the passes and the two products make of loaded numbers.
-use Rattle.std.proofs.Common.{◌≡◌, ◌+◌, ◌-◌, ◌*◌, ◌^◌, ◌<◌, ◌≤◌, ◌∙◌, ap, sym, refl, ℕ, zero, suc, arith, ℤ, pos, neg_ℤ, ◌*ℤ◌, ◌+ℤ◌, List, [], ◌∷◌, ◌++◌, length, get_or, drop, take}
-use Rattle.std.specs.Prelude.{map, replicate, ◌-ℤ◌}
+use Rattle.std.proofs.Common.{◌≡◌, ◌+◌, ◌-◌, ◌*◌, ◌^◌, ◌<◌, ◌≤◌, ◌∙◌, ap, sym, refl, ℕ, zero, suc, arith, ℤ, pos, neg_ℤ, ◌*ℤ◌, ◌+ℤ◌, List, [], ◌∷◌, ◌++◌, length, get_or, drop, take, map, ◌-ℤ◌, inl, inr}
 use Rattle.std.proofs.lemmas.Int.{ints}
 use Rattle.std.proofs.lemmas.Bool.{cases_lt}
 use Rattle.std.proofs.lemmas.List.{length-drop, length-append, length-map, length-take-le, get_or-drop, get_or-take, get_or-append-add, get_or_append_left, drop-drop, take_all, take-append-drop}
-use mathlib.Core.Logic.{inl, inr}
 use borrow.Author.Differences.{product_is}
 use Rattle.fx_tap_sums.specs.Multiplying.{MultipliesBy}
 use Rattle.fx_tap_sums.specs.Products.{sum_of_products}
-use Rattle.fx_tap_sums.specs.Quarters.{difference_at, minus_at, spread_at, with_difference_at}
+use Rattle.fx_tap_sums.specs.Quarters.{difference_at, with_difference_at}
 use Rattle.fx_tap_sums.specs.Residues.{AreCongruent, AreRemainders, AreSame, IsModulus, Same, inverse_of_word}
-use Rattle.fx_tap_sums.specs.Transform.{AreRoots, combined, cyclic, root_at}
+use Rattle.fx_tap_sums.specs.Transform.{AreRoots, combined, root_at}
 use Rattle.fx_tap_sums.specs.Prepared.{IsLoaded, IsPreparedWeights, padded_weights}
 use Rattle.fx_tap_sums.proofs.Numbers.{neg-mul}
-use Rattle.fx_tap_sums.proofs.Residues.{same_add, same_is, same_mul, same_negated, same_on}
+use Rattle.fx_tap_sums.proofs.Residues.{same_add, same_mul, same_negated, same_on}
 use Rattle.fx_tap_sums.proofs.Steps.{at_combined}
 use Rattle.fx_tap_sums.proofs.Cyclic.{length-combined, round}
 use Rattle.fx_tap_sums.proofs.CyclicSums.{length-padded, padded_at, round_is}
@@ -29,11 +27,7 @@ at_scaled r (x ∷ xs) (suc i) = at_scaled r xs i
 
 -- the number at a place of the difference of two lists
 at_apart : (u v : List ℤ) (i : ℕ) → length u ≡ length v → i < length u → get_or (apart u v) i (pos 0) ≡ get_or u i (pos 0) -ℤ get_or v i (pos 0)
-at_apart u v i long lt =
-    let is = at_combined (neg_ℤ (pos 1)) u v i long lt in
-    let turned = neg-mul (pos 1) (get_or v i (pos 0)) in
-    let once = product_is (pos 1) (get_or v i (pos 0)) in
-    omega (arith, ints)
+at_apart u v i long lt = omega (arith, ints, at_combined (neg_ℤ (pos 1)) u v i long lt, neg-mul (pos 1) (get_or v i (pos 0)), product_is (pos 1) (get_or v i (pos 0)))
 
 -- a difference of numbers, so many times
 same_difference : (q : ℕ) (w : ℤ) (xs ys : List ℕ) (us vs : List ℤ) (i : ℕ) → length us ≡ length vs → length xs ≡ length us → length ys ≡ length us → AreSame q xs us → AreSame q ys vs → i < length us →
@@ -70,10 +64,9 @@ same_scaled q w xs ys new us vs long xs_long ys_long new_long first second is i 
 
 same_append : (q : ℕ) (xs ys : List ℕ) (us vs : List ℤ) → length xs ≡ length us → AreSame q xs us → AreSame q ys vs → AreSame q (xs ++ ys) (us ++ vs)
 same_append q [] ys [] vs long first second i lt = second i lt
-same_append q [] ys (u ∷ us) vs long first second i lt = absurd (omega arith)
-same_append q (x ∷ xs) ys [] vs long first second i lt = absurd (omega arith)
 same_append q (x ∷ xs) ys (u ∷ us) vs long first second zero lt = first 0 (omega arith)
 same_append q (x ∷ xs) ys (u ∷ us) vs long first second (suc i) lt = same_append q xs ys us vs (omega arith) (λ j l. first (suc j) (omega arith)) second i (omega arith)
+same_append q _ ys _ vs long first second _ lt = absurd (omega arith)
 
 -- a part of numbers from a place on
 pub same_part : (q n m : ℕ) (xs ys : List ℕ) (us : List ℤ) → AreSame q ys us → length xs ≡ m → n + m ≤ length ys → ((k : ℕ) → k < m → get_or xs k 0 ≡ get_or ys (n + k) 0) → AreSame q xs (take m (drop n us))
@@ -212,6 +205,13 @@ pub record AreCut (v front third first second : List ℕ) : Type 0 where
   pub third_is : third ≡ drop 2048 v
   pub first_is : first ≡ take 1024 front
   pub second_is : second ≡ drop 1024 front
+
+pub cut_long : (v front third first second : List ℕ) → AreCut v front third first second → length v ≡ 3072 → (length first ≡ 1024) × (length second ≡ 1024) × (length third ≡ 1024)
+cut_long v front third first second are long =
+    let front_long : length front ≡ 2048 = rw are.front_is (length-take-le 2048 v (omega arith)) in
+    let left = length-drop 1024 front in
+    let rest = length-drop 2048 v in
+    (rw are.first_is (length-take-le 1024 front (omega arith)), rw are.second_is (omega arith), rw are.third_is (omega arith))
 
 pub cut_first : (v front third first second : List ℕ) → AreCut v front third first second → (k : ℕ) → k < 1024 → get_or first k 0 ≡ get_or v (0 + k) 0
 cut_first v front third first second are k lt =

@@ -1,27 +1,23 @@
 -- Sums of products over a list in thirds, by a product modulo x^2m - 1 and another modulo x^m - r, where the square of r is -1.
-use Rattle.std.proofs.Common.{◌≡◌, ◌+◌, ◌-◌, ◌*◌, ◌<◌, ◌≤◌, ◌∙◌, ap, sym, refl, ℕ, zero, suc, arith, ℤ, pos, neg_ℤ, ◌*ℤ◌, ◌+ℤ◌, List, [], ◌∷◌, ◌++◌, length, get_or, drop, take}
-use Rattle.std.specs.Prelude.{map, replicate}
+use Rattle.std.proofs.Common.{◌≡◌, ◌+◌, ◌-◌, ◌*◌, ◌<◌, ◌≤◌, ◌∙◌, sym, refl, ℕ, zero, suc, arith, ℤ, pos, neg_ℤ, ◌*ℤ◌, ◌+ℤ◌, List, [], ◌∷◌, ◌++◌, length, drop, map, replicate}
 use Rattle.std.proofs.lemmas.Int.{ints}
-use Rattle.std.proofs.lemmas.List.{length-drop, length-append, length-map, get_or-drop, drop_all, drop-map, drop-append-le}
+use Rattle.std.proofs.lemmas.List.{length-drop, length-map, get_or-drop, drop_all, drop-map}
 use borrow.Author.Differences.{product_is}
 use Rattle.fx_frame_base.proofs.ListPlaces.{zeros-sample}
 use Rattle.fx_tap_sums.specs.Products.{sum_of_products}
 use Rattle.fx_tap_sums.specs.Residues.{Same}
 use Rattle.fx_tap_sums.specs.Transform.{combined, cyclic}
 use Rattle.fx_tap_sums.specs.Prepared.{padded_weights}
-use Rattle.fx_tap_sums.proofs.Numbers.{add-mul, mul-add, mul-neg, mul_assoc, mul_swap, neg-mul}
+use Rattle.fx_tap_sums.proofs.Numbers.{add-mul, mul-add, mul_assoc, mul_swap, neg-mul}
 use Rattle.fx_tap_sums.proofs.Residues.{same_add, same_is, same_mul, same_negated, same_on, same_times}
-use Rattle.fx_tap_sums.proofs.Cyclic.{append_left, append_right, beyond_end, combined_left, drop-combined, drop_back, length-combined, nothing, round}
-use Rattle.fx_tap_sums.proofs.CyclicSums.{length-padded, times, zeros}
+use Rattle.fx_tap_sums.proofs.Cyclic.{append_right, beyond_end, combined_left, drop-combined, drop_back, length-combined, nothing, round, round_both}
+use Rattle.fx_tap_sums.proofs.CyclicSums.{length-padded, times, unscaled_is, zeros}
 
 -- ---- what is left of padded, scaled weights
 
 -- zeros after weights change no sum
 pub pads : (xs hs : List ℤ) (z k : ℕ) → sum_of_products xs (drop k (hs ++ replicate z (pos 0))) ≡ sum_of_products xs (drop k hs)
-pads xs hs z zero =
-    let split = append_right xs hs (replicate z (pos 0)) in
-    let none = zeros (drop (length hs) xs) (replicate z (pos 0)) (zeros-sample z) in
-    omega (arith, ints)
+pads xs hs z zero = omega (arith, ints, append_right xs hs (replicate z (pos 0)), zeros (drop (length hs) xs) (replicate z (pos 0)) (zeros-sample z))
 pads xs [] z (suc k) = zeros xs (drop (suc k) (replicate z (pos 0))) (λ j. get_or-drop (suc k) (replicate z (pos 0)) j (pos 0) ∙ zeros-sample z (suc k + j)) ∙ sym (nothing xs)
 pads xs (h ∷ hs) z (suc k) = pads xs hs z k
 
@@ -41,22 +37,9 @@ unscaled n i p factor v scale s a ws bound scaled is =
     let turned = mul_swap s scale over in
     let apart = mul-add scale kept (s *ℤ over) in
     let whole : cyclic s a (padded_weights n hs) i ≡ scale *ℤ total = rw (stay, come) (omega (arith, ints)) in
-    let order : factor *ℤ cyclic s a (padded_weights n hs) i ≡ (scale *ℤ factor) *ℤ total = ap (λ z. factor *ℤ z) whole ∙ mul_swap factor scale total ∙ mul_assoc scale factor total in
-    let one = product_is (pos 1) total in
-    let unit : pos 1 *ℤ total ≡ total = omega (arith, ints) in
-    same_on p v (factor *ℤ cyclic s a (padded_weights n hs) i) total is (same_on p (factor *ℤ cyclic s a (padded_weights n hs) i) ((scale *ℤ factor) *ℤ total) total (same_is p _ _ order)
-    (same_on p ((scale *ℤ factor) *ℤ total) (pos 1 *ℤ total) total (same_times p total (scale *ℤ factor) (pos 1) scaled) (same_is p (pos 1 *ℤ total) total unit)))
+    unscaled_is p factor v scale _ total whole scaled is
 
 -- ---- sums over lists in parts of m numbers
-
--- what comes round of a front and what is after it
-round_front : (m i : ℕ) (a b h : List ℤ) → length a ≡ m → i < m → sum_of_products (drop (i + 1) (a ++ b)) h ≡ round a h i +ℤ sum_of_products b (drop (m - 1 - i) h)
-round_front m i a b h a_long lt =
-    let front = drop-append-le (i + 1) a b (omega arith) in
-    let left = length-drop (i + 1) a in
-    let place : length (drop (i + 1) a) ≡ m - 1 - i = omega arith in
-    let split = append_left (drop (i + 1) a) b h in
-    rw front (rw place at split)
 
 -- weights that begin in a part reach no further than the next one
 pub over_next : (m i : ℕ) (x y z ws : List ℤ) → length x ≡ m → length y ≡ m → length ws ≤ m → i < m →
@@ -64,14 +47,14 @@ pub over_next : (m i : ℕ) (x y z ws : List ℤ) → length x ≡ m → length 
 over_next m i x y z ws x_long y_long bound lt =
     let short = length-drop (m - 1 - i) ws in
     let next = beyond_end y z (drop (m - 1 - i) ws) (omega arith) in
-    round_front m i x (y ++ z) ws x_long lt ∙ rw next refl
+    round_both m i x (y ++ z) ws x_long lt ∙ rw next refl
 
 pub over_last : (m i : ℕ) (x y z ws : List ℤ) → length x ≡ m → length y ≡ m → i < m →
     sum_of_products (drop (m + i + 1) (x ++ (y ++ z))) ws ≡ round y ws i +ℤ sum_of_products z (drop (m - 1 - i) ws)
 over_last m i x y z ws x_long y_long lt =
     let far : m + i + 1 ≡ length x + (i + 1) = omega arith in
     let beyond : drop (m + i + 1) (x ++ (y ++ z)) ≡ drop (i + 1) (y ++ z) = rw far (drop_back x (y ++ z) (i + 1)) in
-    rw beyond (round_front m i y z ws y_long lt)
+    rw beyond (round_both m i y z ws y_long lt)
 
 -- a product of two parts modulo x^2m - 1
 front_part : (m i : ℕ) (x y ws : List ℤ) → length x ≡ m → length y ≡ m → length ws ≤ m → i < m →
@@ -79,7 +62,7 @@ front_part : (m i : ℕ) (x y ws : List ℤ) → length x ≡ m → length y ≡
 front_part m i x y ws x_long y_long bound lt =
     let none : drop (2 * m - 1 - i) ws ≡ [] = drop_all (2 * m - 1 - i) ws (omega arith) in
     let nought = nothing (x ++ y) in
-    let over = round_front m i x y ws x_long lt in
+    let over = round_both m i x y ws x_long lt in
     let once = product_is (pos 1) (round (x ++ y) ws i) in
     rw none (omega (arith, ints))
 
@@ -139,11 +122,7 @@ nothing_left p r half turned low high is =
 scaled_left : (r : ℤ) (xs h : List ℤ) → sum_of_products (map (λ x. r *ℤ x) xs) h ≡ r *ℤ sum_of_products xs h
 scaled_left r [] h = let none = product_is r (pos 0) in omega (arith, ints)
 scaled_left r (x ∷ xs) [] = let none = product_is r (pos 0) in omega (arith, ints)
-scaled_left r (x ∷ xs) (c ∷ h) =
-    let rest = scaled_left r xs h in
-    let first = mul_assoc r x c in
-    let parts = mul-add r (x *ℤ c) (sum_of_products xs h) in
-    omega (arith, ints)
+scaled_left r (x ∷ xs) (c ∷ h) = omega (arith, ints, scaled_left r xs h, mul_assoc r x c, mul-add r (x *ℤ c) (sum_of_products xs h))
 
 round_combined : (r : ℤ) (u v h : List ℤ) (i : ℕ) → length u ≡ length v → round (combined r u v) h i ≡ round u h i +ℤ (r *ℤ round v h i)
 round_combined r u v h i same =

@@ -1,8 +1,6 @@
 -- Vectors of four numbers, lane by lane.
-use Rattle.std.proofs.Common.{◌≡◌, ◌+◌, ◌-◌, ◌*◌, ◌%◌, ◌^◌, ◌<◌, ◌≤◌, ◌∙◌, refl, ap, cond, pos, neg_ℤ, ◌*ℤ◌, ℕ, Bool, true, false, nat_lt, List, [], ◌∷◌, length, get_or, arith, to_z, w64}
-use Rattle.std.specs.Prelude.{◌-ℤ◌, map}
+use Rattle.std.proofs.Common.{◌≡◌, ◌+◌, ◌-◌, ◌*◌, ◌%◌, ◌^◌, ◌<◌, ◌≤◌, ◌∙◌, refl, ap, cond, pos, neg_ℤ, ◌*ℤ◌, ℕ, Bool, true, false, nat_lt, List, [], ◌∷◌, length, get_or, arith, to_z, w64, ◌-ℤ◌, map, inl, inr}
 use Rattle.std.specs.Simd.Lanes.{Each2, zip2, sel_l, top}
-use mathlib.Core.Logic.{inl, inr}
 use Rattle.std.proofs.lemmas.Bool.{cases_lt}
 use Rattle.std.proofs.lemmas.Int.{ints, fits_signed_from_abs, to_z_pos}
 use Rattle.std.proofs.lemmas.Bool.Decides.{nat_tests}
@@ -17,12 +15,8 @@ use mir.Syntax.{cast, signed, sub, unsigned}
 
 -- what holds of four numbers that are written out holds of each list of four
 pub by_four : (P : List ℕ → Type 0) → ((a b c d : ℕ) → P (a ∷ b ∷ c ∷ d ∷ [])) → (xs : List ℕ) → length xs ≡ 4 → P xs
-by_four P all [] l = absurd (omega arith)
-by_four P all (a ∷ []) l = absurd (omega arith)
-by_four P all (a ∷ b ∷ []) l = absurd (omega arith)
-by_four P all (a ∷ b ∷ c ∷ []) l = absurd (omega arith)
 by_four P all (a ∷ b ∷ c ∷ d ∷ []) l = all a b c d
-by_four P all (a ∷ b ∷ c ∷ d ∷ e ∷ xs) l = absurd (omega arith)
+by_four P all _ l = absurd (omega arith)
 
 -- what an operation asks of each lane of two
 pub both_lanes : (P : ℕ → ℕ → Type 0) (xs ys : List ℕ) → length xs ≡ 4 → length ys ≡ 4 → ((k : ℕ) → k < 4 → P (get_or xs k 0) (get_or ys k 0)) → Each2 P xs ys

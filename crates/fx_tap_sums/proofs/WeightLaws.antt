@@ -28,11 +28,9 @@ scaled-products : (by g : ℤ) (es : List (ℕ × ℤ)) (ws ys : List ℤ) → l
     → by *ℤ sum_of_products ws ys ≡ g *ℤ sum_of_products (map (λ e. e.1) es) ys
 scaled-products by g [] [] ys long many scaled = times-none by g
 scaled-products by g [] (w ∷ ws) [] long many scaled = times-none by g
-scaled-products by g [] (w ∷ ws) (y ∷ ys) long many scaled = absurd (omega arith)
-scaled-products by g (e ∷ es) [] ys long many scaled = absurd (omega arith)
-scaled-products by g (e ∷ es) (w ∷ ws) [] long many scaled = absurd (omega arith)
 scaled-products by g (e ∷ es) (w ∷ ws) (y ∷ ys) long many scaled =
     one-more by g w e.1 y _ _ (scaled 0 (omega arith)) (scaled-products by g es ws ys (omega arith) (omega arith) (λ j l. scaled (suc j) (omega (arith, l))))
+scaled-products by g _ _ _ long many scaled = absurd (omega arith)
 
 -- gains in lowest terms sound as the gains
 pub reduced-sounds : (gain_in gain_out g : ℤ) (es : List (ℕ × ℤ)) (cs : List ℤ) (w : Weights) → g ≡ gain_out → length es ≤ 7 → length cs ≡ 8 → length w.weights ≡ 8

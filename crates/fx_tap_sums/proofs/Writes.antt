@@ -1,8 +1,7 @@
 -- Lists of remainders that are written place by place.
-use Rattle.std.proofs.Common.{◌≡◌, ◌≢◌, ◌+◌, ◌-◌, ◌<◌, ◌≤◌, ◌∙◌, refl, ℕ, zero, suc, ℤ, pos, List, [], ◌∷◌, ◌++◌, length, get_or, set, take, drop, arith, below_more, get_or-set_other, get_or-set_same, ◌^◌, unsigned_abs, to_z, of_z, w64}
+use Rattle.std.proofs.Common.{◌≡◌, ◌≢◌, ◌+◌, ◌-◌, ◌<◌, ◌≤◌, ◌∙◌, refl, ℕ, zero, suc, ℤ, pos, List, [], ◌∷◌, ◌++◌, length, get_or, set, take, drop, arith, below_more, get_or-set_other, get_or-set_same, ◌^◌, unsigned_abs, to_z, of_z, w64, inl, inr}
 use Rattle.std.proofs.lemmas.Bool.{cases_lt}
 use Rattle.std.proofs.lemmas.List.{length-append, length-drop, length-take-le, get_or-drop, get_or-take, get_or_append_left, get_or-append_right, get_or_at}
-use mathlib.Core.Logic.{inl, inr}
 use Rattle.fx_tap_sums.specs.Residues.{Same, AreFour, AreRemainders, AreSame}
 use Rattle.fx_tap_sums.proofs.SmallSums.{held-in-64}
 

@@ -1,5 +1,4 @@
-use Rattle.std.proofs.Common.{to_z, w64}
-use Rattle.std.specs.Prelude.{map}
+use Rattle.std.proofs.Common.{to_z, w64, map}
 use Rattle.fx_tap_sums.proofs.Convolving.{AddingLanes}
 use Rattle.fx_tap_sums.proofs.convolve.sixteen.Given as goal
 

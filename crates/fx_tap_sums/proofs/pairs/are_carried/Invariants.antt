@@ -1,5 +1,4 @@
-use Rattle.std.proofs.Common.{◌<◌, ◌≤◌, ℕ, drop, take, unsigned_abs}
-use Rattle.std.specs.Prelude.{sum_by}
+use Rattle.std.proofs.Common.{◌<◌, ◌≤◌, ℕ, drop, take, unsigned_abs, sum_by}
 use Rattle.fx_tap_sums.proofs.pairs.are_carried.Given as goal
 
 abbrev pub invariant-places : goal.invariant-places

@@ -1,5 +1,4 @@
-use Rattle.std.proofs.Common.{◌≡◌, ◌≤◌, ◌<◌, ◌+◌, ℕ, pos, take, slice_index_or, unsigned_abs}
-use Rattle.std.specs.Prelude.{sum_by}
+use Rattle.std.proofs.Common.{◌≡◌, ◌≤◌, ◌<◌, ◌+◌, ℕ, pos, take, slice_index_or, unsigned_abs, sum_by}
 use Rattle.fx_tap_sums.proofs.pairs.are_within.Given as goal
 
 abbrev pub invariant-weights : goal.invariant-weights

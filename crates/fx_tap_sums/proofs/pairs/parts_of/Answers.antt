@@ -4,24 +4,21 @@ use Rattle.fx_tap_sums.proofs.pairs.parts_of.Goals as goal
 
 pub overflow_sub-result : goal.overflow_sub-result
 overflow_sub-result c =
-    let z = c.args.weight in
     elim c.requires.split [
-      | inl e ↦ let bound = rw e at c.requires.weight in rw e (part-fits 8192 4096 z (weighed_8192 z c.ranges.weight bound))
-      | inr e ↦ let bound = rw e at c.requires.weight in rw e (part-fits 16384 8192 z (weighed_16384 z c.ranges.weight bound))
+      | inl e ↦ let bound = rw e at c.requires.weight in rw e (part-fits 8192 4096 c.args.weight (weighed_8192 c.args.weight c.ranges.weight bound))
+      | inr e ↦ let bound = rw e at c.requires.weight in rw e (part-fits 16384 8192 c.args.weight (weighed_16384 c.args.weight c.ranges.weight bound))
     ]
 
 pub returns-clause-value : goal.returns-clause-value
 returns-clause-value c =
-    let z = c.args.weight in
     elim c.requires.split [
-      | inl e ↦ let bound = rw e at c.requires.weight in rw e (part-joined 8192 4096 z (weighed_8192 z c.ranges.weight bound))
-      | inr e ↦ let bound = rw e at c.requires.weight in rw e (part-joined 16384 8192 z (weighed_16384 z c.ranges.weight bound))
+      | inl e ↦ let bound = rw e at c.requires.weight in rw e (part-joined 8192 4096 c.args.weight (weighed_8192 c.args.weight c.ranges.weight bound))
+      | inr e ↦ let bound = rw e at c.requires.weight in rw e (part-joined 16384 8192 c.args.weight (weighed_16384 c.args.weight c.ranges.weight bound))
     ]
 
 pub returns-clause-low : goal.returns-clause-low
 returns-clause-low c =
-    let z = c.args.weight in
     elim c.requires.split [
-      | inl e ↦ let bound = rw e at c.requires.weight in rw e (part-low 8192 4096 z (weighed_8192 z c.ranges.weight bound))
-      | inr e ↦ let bound = rw e at c.requires.weight in rw e (part-low 16384 8192 z (weighed_16384 z c.ranges.weight bound))
+      | inl e ↦ let bound = rw e at c.requires.weight in rw e (part-low 8192 4096 c.args.weight (weighed_8192 c.args.weight c.ranges.weight bound))
+      | inr e ↦ let bound = rw e at c.requires.weight in rw e (part-low 16384 8192 c.args.weight (weighed_16384 c.args.weight c.ranges.weight bound))
     ]

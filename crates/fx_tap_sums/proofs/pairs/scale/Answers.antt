@@ -11,21 +11,8 @@ overflow_mul-result c =
     let xs = c.args.sums in
     rw (wide_bits xs c.requires.fits) (mul_asked (2 ^ 31) 65536 xs (replicate 4 (pos 65536)) (omega arith) (omega arith) (omega arith) (lanes-bound xs c.requires.fits) (Each1-replicate (WithinLane 65536) 4 (pos 65536) (omega arith)))
 
-pub returns-clause-small : goal.returns-clause-small
-returns-clause-small c =
-    let xs = c.args.sums in
-    let ys : List ℤ = replicate 4 (pos 65536) in
-    let products = zip2 (λ a b. a *ℤ b) xs ys in
-    let factors = Each1-replicate (WithinLane 65536) 4 (pos 65536) (omega arith) in
-    let bits = mul_bits (2 ^ 31) 65536 xs ys (omega arith) (omega arith) (lanes-bound xs c.requires.fits) factors in
-    let small = products_within (2 ^ 31) 65536 xs ys (lanes-bound xs c.requires.fits) factors in
-    rw (wide_bits xs c.requires.fits, bits, lanes_back (2 ^ 31 * 65536) products (omega arith) small) (record {
-      four = length-zip2 (λ a b. a *ℤ b) xs ys (c.requires.four) ∙ c.requires.four;
-      small = wider (2 ^ 31 * 65536) (2 ^ 61) products (omega arith) small;
-    })
-
-pub returns-clause-value : goal.returns-clause-value
-returns-clause-value c = λ k l.
+pub returns : goal.returns
+returns c =
     let xs = c.args.sums in
     let ys : List ℤ = replicate 4 (pos 65536) in
     let products = zip2 (λ a b. a *ℤ b) xs ys in
@@ -33,5 +20,7 @@ returns-clause-value c = λ k l.
     let bits = mul_bits (2 ^ 31) 65536 xs ys (omega arith) (omega arith) (lanes-bound xs c.requires.fits) factors in
     let small = products_within (2 ^ 31) 65536 xs ys (lanes-bound xs c.requires.fits) factors in
     let four = c.requires.four in
-    rw (wide_bits xs c.requires.fits, bits, lanes_back (2 ^ 31 * 65536) products (omega arith) small)
-    (get_or-zip2 (λ a b. a *ℤ b) xs ys k (pos 0) (pos 0) (pos 0) (omega (arith, four, l)) l ∙ ap (λ y. slice_index_or xs k (pos 0) *ℤ y) (get_or-replicate 4 k (pos 65536) (pos 0) l))
+    rw (wide_bits xs c.requires.fits, bits, lanes_back (2 ^ 31 * 65536) products (omega arith) small) (record {
+      small = record { four = length-zip2 (λ a b. a *ℤ b) xs ys four ∙ four; small = wider (2 ^ 31 * 65536) (2 ^ 61) products (omega arith) small };
+      value = λ k l. get_or-zip2 (λ a b. a *ℤ b) xs ys k (pos 0) (pos 0) (pos 0) (omega (arith, four, l)) l ∙ ap (λ y. slice_index_or xs k (pos 0) *ℤ y) (get_or-replicate 4 k (pos 65536) (pos 0) l);
+    })

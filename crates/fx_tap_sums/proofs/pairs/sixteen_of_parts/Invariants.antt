@@ -1,5 +1,4 @@
-use Rattle.std.proofs.Common.{◌≤◌, ◌-◌, to_z, w32}
-use Rattle.std.specs.Prelude.{map}
+use Rattle.std.proofs.Common.{◌≤◌, ◌-◌, to_z, w32, map}
 use Rattle.fx_tap_sums.proofs.PartSums.{AddingParts, Carried}
 use Rattle.fx_tap_sums.proofs.pairs.sixteen_of_parts.Given as goal
 

@@ -1,5 +1,4 @@
-use Rattle.std.proofs.Common.{rules, ◌≡◌, ◌≤◌, ◌^◌, ℤ, ℕ, pos, arith, slice_index_or, to_z, of_z, w32}
-use Rattle.std.specs.Prelude.{unsigned_abs}
+use Rattle.std.proofs.Common.{rules, ◌≡◌, ◌≤◌, ◌^◌, ℤ, ℕ, pos, arith, slice_index_or, to_z, of_z, w32, unsigned_abs}
 use Rattle.fx_tap_sums.specs.Pairs.{joined_halves}
 use Rattle.fx_tap_sums.proofs.PartSums.{join-more}
 use Rattle.fx_tap_sums.proofs.Writes.{each_more}

@@ -1,5 +1,4 @@
-use Rattle.std.proofs.Common.{arith, ◌≤◌, ◌^◌}
-use Rattle.std.specs.Prelude.{unsigned_abs}
+use Rattle.std.proofs.Common.{arith, ◌≤◌, ◌^◌, unsigned_abs}
 use Rattle.std.proofs.lemmas.Int.{ints, to_z-of_z}
 use Rattle.fx_tap_sums.proofs.products.product.Goals as goal
 use Rattle.fx_tap_sums.proofs.ProductBounds.{product_within}

@@ -1,22 +1,21 @@
-use Rattle.std.proofs.Common.{arith, sym, ◌∙◌, refl, ◌≡◌, ◌≤◌, ◌+◌, ◌*◌, ◌^◌, length, ◌+ℤ◌, to_z, w64}
-use Rattle.std.specs.Prelude.{map}
+use Rattle.std.proofs.Common.{arith, sym, ◌∙◌, refl, ◌≡◌, ◌≤◌, ◌+◌, ◌*◌, ◌^◌, length, ◌+ℤ◌, to_z, w64, map}
 use Rattle.std.specs.Simd.Lanes.{chunk}
 use Rattle.fx_tap_sums.specs.Lanes.{joined, lane_sum}
 use Rattle.fx_tap_sums.specs.Products.{sum_of_products}
 use Rattle.fx_tap_sums.proofs.products.short_dot.Goals as goal
-use Rattle.fx_tap_sums.proofs.ProductLanes.{block_added, lanes_back, sum_of_products-block, sum_of_products-joined}
+use Rattle.fx_tap_sums.proofs.ProductLanes.{block_added, lanes_back, wide-within, sum_of_products-block, sum_of_products-joined}
 
 pub add_products-high-requires-clause-x : goal.add_products-high-requires-clause-x
-add_products-high-requires-clause-x c = rw (lanes_back (2 ^ 31) c.load-x.result (omega arith) c.load-x.ensures.small.small) c.load-x.ensures.small
+add_products-high-requires-clause-x c = wide-within (2 ^ 31) c.load-x.result (omega arith) c.load-x.ensures.small
 
 pub add_products-low-requires-clause-x : goal.add_products-low-requires-clause-x
-add_products-low-requires-clause-x c = rw (lanes_back (2 ^ 31) c.load-x.result (omega arith) c.load-x.ensures.small.small) c.load-x.ensures.small
+add_products-low-requires-clause-x c = wide-within (2 ^ 31) c.load-x.result (omega arith) c.load-x.ensures.small
 
 pub add_products-high-requires-clause-y : goal.add_products-high-requires-clause-y
-add_products-high-requires-clause-y c = rw (lanes_back (2 ^ 25) c.load_parts.result.0 (omega arith) c.load_parts.ensures.high.small) c.load_parts.ensures.high
+add_products-high-requires-clause-y c = wide-within (2 ^ 25) c.load_parts.result.0 (omega arith) c.load_parts.ensures.high
 
 pub add_products-low-requires-clause-y : goal.add_products-low-requires-clause-y
-add_products-low-requires-clause-y c = rw (lanes_back (2 ^ 25) c.load_parts.result.1 (omega arith) c.load_parts.ensures.low.small) c.load_parts.ensures.low
+add_products-low-requires-clause-y c = wide-within (2 ^ 25) c.load_parts.result.1 (omega arith) c.load_parts.ensures.low
 
 pub loop-at-preserved : goal.loop-at-preserved
 loop-at-preserved c =

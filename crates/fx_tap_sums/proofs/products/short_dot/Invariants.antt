@@ -1,5 +1,4 @@
-use Rattle.std.proofs.Common.{◌≡◌, ◌*◌, ◌^◌, ◌-◌, ◌≤◌, length, drop, ◌+ℤ◌, to_z, w64}
-use Rattle.std.specs.Prelude.{map}
+use Rattle.std.proofs.Common.{◌≡◌, ◌*◌, ◌^◌, ◌-◌, ◌≤◌, length, drop, ◌+ℤ◌, to_z, w64, map}
 use Rattle.fx_tap_sums.specs.Products.{sum_of_products}
 use Rattle.fx_tap_sums.specs.Lanes.{LanesWithin, joined, lane_sum}
 use Rattle.fx_tap_sums.proofs.products.short_dot.Given as goal

@@ -1,6 +1,5 @@
-use Rattle.std.proofs.Common.{◌≡◌, arith, pos, get_or, ◌+ℤ◌, ◌≤◌, ◌*◌, ◌^◌}
+use Rattle.std.proofs.Common.{◌≡◌, arith, pos, get_or, ◌+ℤ◌, ◌≤◌, ◌*◌, ◌^◌, unsigned_abs}
 use Rattle.std.proofs.lemmas.Int.{ints, to_z-of_z}
-use Rattle.std.specs.Prelude.{unsigned_abs}
 use Rattle.fx_tap_sums.specs.Lanes.{lane_sum}
 use Rattle.fx_tap_sums.proofs.ProductBounds.{within_abs}
 use Rattle.fx_tap_sums.proofs.products.sum_lanes.Goals as goal
@@ -15,8 +14,7 @@ returns-clause-value c =
     let f3 = lane_fits (c.args.at * 2 ^ 54) 3 c.args.lanes (omega arith) (omega arith) c.requires.lanes in
     let first : c.sum_two.result ≡ (get_or c.args.lanes 0 (pos 0) +ℤ get_or c.args.lanes 1 (pos 0)) = grind (arith, to_z-of_z, back) in
     let second : c.sum_two-2.result ≡ (get_or c.args.lanes 2 (pos 0) +ℤ get_or c.args.lanes 3 (pos 0)) = grind (arith, to_z-of_z, back) in
-    let four = lane_sum-four c.args.lanes c.requires.lanes.four in
-    omega (arith, ints)
+    omega (arith, ints, lane_sum-four c.args.lanes c.requires.lanes.four)
 
 pub returns-clause-low : goal.returns-clause-low
 returns-clause-low c =

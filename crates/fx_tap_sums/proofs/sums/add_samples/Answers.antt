@@ -1,5 +1,4 @@
-use Rattle.std.proofs.Common.{rules, ◌≡◌, ◌<◌, ◌≤◌, ◌≢◌, ◌+◌, ◌^◌, ◌∙◌, refl, ap, ℕ, ℤ, List, pos, ◌+ℤ◌, length, arith, slice_index_or, unsigned_abs, FitsSigned, to_z, of_z, get_or-set_other, get_or-set_same, below_more}
-use Rattle.std.specs.Int.{w32, w64}
+use Rattle.std.proofs.Common.{rules, ◌≡◌, ◌<◌, ◌≤◌, ◌≢◌, ◌+◌, ◌^◌, ◌∙◌, refl, ap, ℕ, ℤ, List, pos, ◌+ℤ◌, length, arith, slice_index_or, unsigned_abs, FitsSigned, to_z, of_z, get_or-set_other, get_or-set_same, below_more, w32, w64}
 use Rattle.std.proofs.lemmas.Int.{ints}
 use Rattle.fx_tap_sums.proofs.SmallSums.{held-in-64, wide-two}
 use Rattle.fx_tap_sums.proofs.Magnitudes.{added-bound}

@@ -1,29 +1,22 @@
-use Rattle.std.proofs.Common.{rules, ◌≡◌, ◌≤◌, ◌^◌, ◌∙◌, ap, ◌*ℤ◌, arith, unsigned_abs, FitsSigned, to_z, of_z}
-use Rattle.std.specs.Int.{w32, w64}
+use Rattle.std.proofs.Common.{rules, ◌≡◌, ◌≤◌, ◌^◌, ◌*ℤ◌, ℤ, arith, unsigned_abs, FitsSigned, to_z, of_z, w32, w64}
 use Rattle.std.proofs.lemmas.Int.{fits_signed_from_abs, ints}
 use Rattle.fx_tap_sums.proofs.SmallSums.{held-in-64, plain-product, weighed-bound}
 use Rattle.fx_tap_sums.proofs.sums.product.Goals as goal
 
+sample-bound : (x : ℤ) → FitsSigned w32 x → unsigned_abs x ≤ 2 ^ 31
+sample-bound x fits = omega (arith, ints)
+
+-- the product of both, widened
+product-is : (w x f y : ℤ) → f ≡ w → y ≡ x → unsigned_abs w ≤ 2 ^ 27 → FitsSigned w32 x → let z : ℤ = to_z w64 (of_z w64 f) *ℤ to_z w64 (of_z w64 y) in FitsSigned w64 z × (to_z w64 (of_z w64 z) ≡ w *ℤ x)
+product-is w x f y f_is y_is small fits =
+    let maximum = weighed-bound w x small (sample-bound x fits) in
+    rw (plain-product w x f y f_is y_is small (sample-bound x fits)) (fits_signed_from_abs w64 (w *ℤ x) (omega (arith, maximum)), held-in-64 (w *ℤ x) (omega (arith, maximum)))
+
 pub overflow_mul-result : goal.overflow_mul-result
-overflow_mul-result c =
-    let fits : FitsSigned w32 c.args.sample = c.ranges.sample in
-    let bound : unsigned_abs c.args.sample ≤ 2 ^ 31 = omega (arith, ints) in
-    let f : c.from.result ≡ c.args.weight = search rules in
-    let y : c.from-2.result ≡ c.args.sample = search rules in
-    let maximum = weighed-bound c.args.weight c.args.sample c.requires bound in
-    rw (plain-product c.args.weight c.args.sample c.from.result c.from-2.result f y c.requires bound) (fits_signed_from_abs w64 (c.args.weight *ℤ c.args.sample) (omega (arith, maximum)))
+overflow_mul-result c = (product-is c.args.weight c.args.sample c.from.result c.from-2.result (search rules) (search rules) c.requires c.ranges.sample).0
 
 pub returns-clause-value : goal.returns-clause-value
-returns-clause-value c =
-    let fits : FitsSigned w32 c.args.sample = c.ranges.sample in
-    let bound : unsigned_abs c.args.sample ≤ 2 ^ 31 = omega (arith, ints) in
-    let f : c.from.result ≡ c.args.weight = search rules in
-    let y : c.from-2.result ≡ c.args.sample = search rules in
-    let maximum = weighed-bound c.args.weight c.args.sample c.requires bound in
-    ap (λ z. to_z w64 (of_z w64 z)) (plain-product c.args.weight c.args.sample c.from.result c.from-2.result f y c.requires bound) ∙ held-in-64 (c.args.weight *ℤ c.args.sample) (omega (arith, maximum))
+returns-clause-value c = (product-is c.args.weight c.args.sample c.from.result c.from-2.result (search rules) (search rules) c.requires c.ranges.sample).1
 
 pub returns-clause-bound : goal.returns-clause-bound
-returns-clause-bound c =
-    let fits : FitsSigned w32 c.args.sample = c.ranges.sample in
-    let bound : unsigned_abs c.args.sample ≤ 2 ^ 31 = omega (arith, ints) in
-    rw (returns-clause-value c) (weighed-bound c.args.weight c.args.sample c.requires bound)
+returns-clause-bound c = rw (returns-clause-value c) (weighed-bound c.args.weight c.args.sample c.requires (sample-bound c.args.sample c.ranges.sample))

@@ -1,5 +1,4 @@
-use Rattle.std.proofs.Common.{◌≡◌, length, rules, to_z, of_z}
-use Rattle.std.specs.Int.{w64}
+use Rattle.std.proofs.Common.{◌≡◌, length, rules, to_z, of_z, w64}
 use Rattle.std.proofs.lemmas.Int.{to_z-of_z}
 use Rattle.fx_tap_sums.proofs.WeightLaws.{reduced-sounds}
 use Rattle.fx_tap_sums.proofs.weights.small_of.Goals as goal

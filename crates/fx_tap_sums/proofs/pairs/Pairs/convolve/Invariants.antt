@@ -1,5 +1,4 @@
-use Rattle.std.proofs.Common.{◌≡◌, ◌<◌, ◌≤◌, ◌+◌, ◌-◌, ◌^◌, ℕ, pos, drop, length, slice_index_or}
-use Rattle.std.specs.Prelude.{unsigned_abs}
+use Rattle.std.proofs.Common.{◌≡◌, ◌<◌, ◌≤◌, ◌+◌, ◌-◌, ◌^◌, ℕ, pos, drop, length, slice_index_or, unsigned_abs}
 use Rattle.fx_tap_sums.specs.Pairs.{AreHalves}
 use Rattle.fx_tap_sums.specs.Products.{sum_of_products}
 use Rattle.fx_tap_sums.proofs.pairs.Pairs.convolve.Given as goal

@@ -10,23 +10,21 @@ use Rattle.fx_tap_sums.proofs.transforms.joining.join_all.Goals as goal
 
 pub put_lanes-requires-clause-lanes : goal.put_lanes-requires-clause-lanes
 put_lanes-requires-clause-lanes c =
-    let four = c.join_two.ensures.four in
-    let small = joined_small c.groups.at c.args.first.now c.args.second.now c.load.result c.load-in-groups.result c.join_two.result c.join_two.ensures.four c.load.ensures.value c.load-in-groups.ensures.value (λ k l. c.join_two.ensures.sums k (omega (arith, four, l))) (λ k l. c.requires.are (c.groups.at + k) (omega arith)) in
+    let small = joined_small c.groups.at c.args.first.now c.args.second.now c.load.result c.load-in-groups.result c.join_two.result c.join_two.ensures.four c.load.ensures.value c.load-in-groups.ensures.value (λ k l. c.join_two.ensures.sums k (omega (arith, c.join_two.ensures.four, l))) (λ k l. c.requires.are (c.groups.at + k) (omega arith)) in
     rw (lanes_back (2 ^ 61) c.join_two.result (omega arith) small.small) small
 
 pub groups-preserved : goal.groups-preserved
 groups-preserved c =
     let first = c.args.first.now in
     let second = c.args.second.now in
-    let four = c.join_two.ensures.four in
-    let small = joined_small c.groups.at first second c.load.result c.load-in-groups.result c.join_two.result c.join_two.ensures.four c.load.ensures.value c.load-in-groups.ensures.value (λ k l. c.join_two.ensures.sums k (omega (arith, four, l))) (λ k l. c.requires.are (c.groups.at + k) (omega arith)) in
+    let small = joined_small c.groups.at first second c.load.result c.load-in-groups.result c.join_two.result c.join_two.ensures.four c.load.ensures.value c.load-in-groups.ensures.value (λ k l. c.join_two.ensures.sums k (omega (arith, c.join_two.ensures.four, l))) (λ k l. c.requires.are (c.groups.at + k) (omega arith)) in
     let back = lanes_back (2 ^ 61) c.join_two.result (omega arith) small.small in
     let put = rw back at c.put_lanes.ensures.put in
     record {
       place = omega arith;
       done = placed-more (λ i v. (x : ℤ) → HasBothAt first second i x → v ≡ pos 256 *ℤ x) 4 c.groups.at _
           (λ i l x both. c.put_lanes.ensures.before i l ∙ c.groups.invariant.done i l x both)
-          (λ k l x both. put k l ∙ c.join_two.ensures.sums k (omega (arith, four, l)) x (rw (c.load.ensures.value k l, c.load-in-groups.ensures.value k l) both));
+          (λ k l x both. put k l ∙ c.join_two.ensures.sums k (omega (arith, c.join_two.ensures.four, l)) x (rw (c.load.ensures.value k l, c.load-in-groups.ensures.value k l) both));
     }
 
 pub overflow_mul-sums : goal.overflow_mul-sums

@@ -7,8 +7,7 @@ use Rattle.fx_tap_sums.proofs.transforms.joining.raised_two.Goals as goal
 
 pub returns-clause-sums : goal.returns-clause-sums
 returns-clause-sums c = λ k within x both.
-    let four = c.add_wide.ensures.four in
-    let l : k < 4 = omega (arith, four, within) in
+    let l : k < 4 = omega (arith, c.add_wide.ensures.four, within) in
     let first = slice_index_or c.args.first k 0 in
     let second = slice_index_or c.args.second k 0 in
     let product = slice_index_or c.times_four.result k 0 in

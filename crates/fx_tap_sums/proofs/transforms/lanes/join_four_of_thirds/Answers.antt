@@ -1,10 +1,11 @@
-use Rattle.std.proofs.Common.{arith, ◌*◌, refl, pos, neg_ℤ, ◌+ℤ◌, ◌*ℤ◌, slice_index_or}
-use Rattle.std.specs.Prelude.{◌-ℤ◌}
-use Rattle.fx_tap_sums.specs.Residues.{AreFour, Same}
-use Rattle.fx_tap_sums.proofs.Numbers.{neg-mul}
-use Rattle.fx_tap_sums.proofs.Residues.{same_add, same_on, same_negated, same_refl}
+use Rattle.std.proofs.Common.{arith, ◌*◌, refl, ℕ, ℤ, List, pos, neg_ℤ, ◌+ℤ◌, ◌*ℤ◌, slice_index_or, ◌-ℤ◌}
+use Rattle.fx_tap_sums.specs.Residues.{AreFour}
+use Rattle.fx_tap_sums.proofs.Residues.{minus_times, same_added, same_on}
 use Rattle.fx_tap_sums.proofs.Vectors.{lane_reduced, lane_same}
 use Rattle.fx_tap_sums.proofs.transforms.lanes.join_four_of_thirds.Goals as goal
+
+abbrev lane : List ℕ → ℕ → ℤ
+lane xs k = pos (slice_index_or xs k 0)
 
 pub returns-clause-first_less : goal.returns-clause-first_less
 returns-clause-first_less g c =
@@ -19,22 +20,13 @@ returns-clause-second_less g c =
 pub returns-clause-first : goal.returns-clause-first
 returns-clause-first g c = λ k l.
     let p = pos g.row.P in
-    let first = pos (slice_index_or c.args.first k 0) in
-    let part = pos (slice_index_or c.times_four-part.result k 0) in
-    let product = pos c.args.root *ℤ pos (slice_index_or c.args.third k 0) in
-    let less = pos (slice_index_or c.opposite_four.result k 0) in
-    let turned = neg-mul (pos c.args.root) (pos (slice_index_or c.args.third k 0)) in
-    let taken : Same p less (neg_ℤ product) = same_on p less (neg_ℤ part) (neg_ℤ product) (c.opposite_four.ensures.same k l) (same_negated p part product (c.times_four-part.ensures.same k l)) in
-    let sum : Same p (first +ℤ less) (first +ℤ neg_ℤ product) = same_add p first first less (neg_ℤ product) (same_refl p first) taken in
+    let product : ℤ = neg_ℤ (pos c.args.root) *ℤ lane c.args.third k in
+    let taken = minus_times p (pos c.args.root) (lane c.args.third k) (lane c.times_four-part.result k) (lane c.opposite_four.result k) (c.opposite_four.ensures.same k l) (c.times_four-part.ensures.same k l) in
     let reduced = rw (c.add-low.ensures.value k l) at (lane_same g.row.P 4 (4 * g.row.P) c.add-low.result c.less_of_difference.result refl c.less_of_difference.ensures.below c.less_of_difference.ensures.above k l) in
-    rw turned (same_on p (pos (slice_index_or c.less_of_difference.result k 0)) (first +ℤ less) (first +ℤ neg_ℤ product) reduced sum)
+    same_on p _ (lane c.args.first k +ℤ lane c.opposite_four.result k) (lane c.args.first k +ℤ product) reduced (same_added p (lane c.args.first k) (lane c.opposite_four.result k) product taken)
 
 pub returns-clause-second : goal.returns-clause-second
 returns-clause-second g c = λ k l.
     let p = pos g.row.P in
-    let second = pos (slice_index_or c.args.second k 0) in
-    let third = pos (slice_index_or c.args.third k 0) in
-    let less = pos (slice_index_or c.opposite_four-2.result k 0) in
-    let sum : Same p (second +ℤ less) (second -ℤ third) = same_add p second second less (neg_ℤ third) (same_refl p second) (c.opposite_four-2.ensures.same k l) in
     let reduced = rw (c.add-high.ensures.value k l) at (lane_same g.row.P 4 (4 * g.row.P) c.add-high.result c.less_of_difference-2.result refl c.less_of_difference-2.ensures.below c.less_of_difference-2.ensures.above k l) in
-    same_on p (pos (slice_index_or c.less_of_difference-2.result k 0)) (second +ℤ less) (second -ℤ third) reduced sum
+    same_on p _ (lane c.args.second k +ℤ lane c.opposite_four-2.result k) (lane c.args.second k -ℤ lane c.args.third k) reduced (same_added p (lane c.args.second k) (lane c.opposite_four-2.result k) (neg_ℤ (lane c.args.third k)) (c.opposite_four-2.ensures.same k l))

@@ -10,15 +10,11 @@ use Rattle.fx_tap_sums.proofs.transforms.leaves.write_leaves.Goals as goal
 
 pub offset_bounds-roots-last : goal.offset_bounds-roots-last
 offset_bounds-roots-last g c =
-    let f = c.args.spectrum.now in
-    let inside = roots_inside (length f) c.args.place (length c.args.roots.now) c.requires.groups c.requires.roots in
-    omega (arith, inside, c.pairs-test.true)
+    omega (arith, roots_inside (length c.args.spectrum.now) c.args.place (length c.args.roots.now) c.requires.groups c.requires.roots, c.pairs-test.true)
 
 pub bounds-roots-last : goal.bounds-roots-last
 bounds-roots-last g c =
-    let f = c.args.spectrum.now in
-    let inside = roots_inside (length f) c.args.place (length c.args.roots.now) c.requires.groups c.requires.roots in
-    omega (arith, inside, c.pairs-test.true)
+    omega (arith, roots_inside (length c.args.spectrum.now) c.args.place (length c.args.roots.now) c.requires.groups c.requires.roots, c.pairs-test.true)
 
 pub pairs-preserved : goal.pairs-preserved
 pairs-preserved g c =

@@ -1,5 +1,4 @@
-use Rattle.std.proofs.Common.{arith, rules, to_z, of_z, w32, ◌≡◌, ◌<◌, ℕ, ℤ, pos, ◌*ℤ◌, ◌∷◌, [], get_or, refl}
-use Rattle.std.specs.Prelude.{map}
+use Rattle.std.proofs.Common.{arith, rules, to_z, of_z, w32, ◌≡◌, ◌<◌, ℕ, ℤ, pos, ◌*ℤ◌, ◌∷◌, [], get_or, refl, map}
 use Rattle.std.proofs.lemmas.List.{get_or_past, get_or-map, length-map, length-append}
 use Rattle.fx_tap_sums.specs.Residues.{Same}
 use Rattle.fx_tap_sums.proofs.Residues.{same_is, same_on, same_mul}

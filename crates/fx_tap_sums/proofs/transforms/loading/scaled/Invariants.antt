@@ -1,5 +1,4 @@
-use Rattle.std.proofs.Common.{◌≡◌, pos, ◌*ℤ◌, length}
-use Rattle.std.specs.Prelude.{map}
+use Rattle.std.proofs.Common.{◌≡◌, pos, ◌*ℤ◌, length, map}
 use Rattle.fx_tap_sums.specs.Residues.{AreRemainders, AreSame}
 use Rattle.fx_tap_sums.proofs.transforms.loading.scaled.Given as goal
 

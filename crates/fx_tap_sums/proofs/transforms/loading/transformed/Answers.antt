@@ -1,5 +1,4 @@
-use Rattle.std.proofs.Common.{arith, rules, ap, ◌≡◌, ◌≤◌, ◌+◌, ◌-◌, ◌*◌, ◌^◌, ℕ, ℤ, pos, ◌*ℤ◌, List, ◌++◌, length, take, drop}
-use Rattle.std.specs.Prelude.{map}
+use Rattle.std.proofs.Common.{arith, rules, ap, ◌≡◌, ◌≤◌, ◌+◌, ◌-◌, ◌*◌, ◌^◌, ℕ, ℤ, pos, ◌*ℤ◌, List, ◌++◌, length, take, drop, map}
 use Rattle.std.proofs.lemmas.List.{take_at, length-map}
 use Rattle.std.proofs.lemmas.Nat.{mul-le}
 use Rattle.fx_tap_sums.specs.Prepared.{padded_weights}
@@ -17,8 +16,7 @@ returns-clause-transform g c =
     let new : List ℕ = c.forward.new.values in
     let values = c.in_ok-values.values.items in
     let old_long = ap length c.deref_mut.ensures.value in
-    let was = c.in_ok-values.ensures.long in
-    let long : length new ≡ c.args.count = omega (arith, c.forward.auto.values, old_long, was) in
+    let long : length new ≡ c.args.count = omega (arith, c.forward.auto.values, old_long, c.in_ok-values.ensures.long) in
     let free : length new ≡ c.in_ok-values.values.len = search rules in
     let all : take c.in_ok-values.values.len (new ++ drop (length new) values) ≡ new = take_at new (drop (length new) values) c.in_ok-values.values.len free in
     let mapped = length-map ws f in
@@ -32,9 +30,8 @@ forward-requires g c =
     let p : ℕ = g.row.P in
     let levels : ℕ = c.args.levels in
     let old = c.deref_mut.result.now in
-    let was = c.in_ok-values.ensures.long in
     let old_long = ap length c.deref_mut.ensures.value in
-    let long : length old ≡ c.args.count = omega (arith, old_long, was) in
+    let long : length old ≡ c.args.count = omega (arith, old_long, c.in_ok-values.ensures.long) in
     let power : length old ≡ 4 * 2 ^ levels = omega (arith, long, c.requires.count) in
     let bound : (c.args.place + 1) * length old ≤ 4096 = rw long c.requires.place in
     let limit : levels ≤ 10 = levels_bound levels (length old) c.args.place power bound in

@@ -1,5 +1,4 @@
-use Rattle.std.proofs.Common.{arith, refl, ◌≡◌, ◌≤◌, ◌+◌, ◌-◌, ◌*◌, ◌/◌, ◌%◌, ◌^◌, ◌∙◌, ℕ, zero, suc, length, IfOk, Ok, Err}
-use Rattle.std.specs.Prelude.{Result}
+use Rattle.std.proofs.Common.{arith, refl, ◌≡◌, ◌≤◌, ◌+◌, ◌-◌, ◌*◌, ◌/◌, ◌%◌, ◌^◌, ◌∙◌, ℕ, zero, suc, length, IfOk, Ok, Err, Result}
 use Rattle.fx_tap_sums.specs.Leaves.{AreLeaves}
 use Rattle.fx_tap_sums.proofs.Doubling.{power_more}
 use Rattle.fx_tap_sums.proofs.transforms.prepared.prepared_weights.Goals as goal
@@ -49,8 +48,7 @@ leaves_of-requires g c =
     let whole : length c.in_ok-spectrum.spectrum.items ≡ 4 * 2 ^ c.args.levels = c.in_ok-spectrum.ensures.long ∙ count_is c.args.levels c.requires.levels.0 c.requires.levels.1 in
     let long : length c.in_ok-spectrum.spectrum.items ≡ 8 * 2 ^ (c.args.levels - 1) = omega (arith, twice, whole) in
     let fit : (c.args.place + 1) * length c.in_ok-spectrum.spectrum.items ≤ 4096 = rw whole c.requires.place in
-    let roots = c.requires.table in
-    (omega arith, (c.requires.modulus, (rw (c.deref-3.ensures.value, long) (omega arith), (rw (c.deref-3.ensures.value, c.deref-2.ensures.value) (omega (arith, fit, roots)), rw c.deref-3.ensures.value c.in_ok-spectrum.ensures.remainders))))
+    (omega arith, (c.requires.modulus, (rw (c.deref-3.ensures.value, long) (omega arith), (rw (c.deref-3.ensures.value, c.deref-2.ensures.value) (omega (arith, fit, c.requires.table)), rw c.deref-3.ensures.value c.in_ok-spectrum.ensures.remainders))))
 
 pub returns : goal.returns
 returns g c = both _ _ _ c.leaves_of.result c.leaves_of.ensures.remainders c.leaves_of.ensures.are (λ v remainders are.

@@ -1,6 +1,5 @@
-use Rattle.std.proofs.Common.{rules, arith, unsigned_abs, ◌≡◌, ◌≤◌, ◌<◌, ◌∙◌, ◌^◌, ℤ, pos, ◌+ℤ◌, w32}
+use Rattle.std.proofs.Common.{rules, arith, unsigned_abs, ◌≡◌, ◌≤◌, ◌<◌, ◌∙◌, ◌^◌, ℤ, pos, ◌+ℤ◌, w32, FitsSigned}
 use Rattle.std.proofs.lemmas.Int.{ints}
-use Rattle.std.specs.Prelude.{FitsSigned}
 use Rattle.fx_tap_sums.proofs.Residues.{raised_same}
 use Rattle.fx_tap_sums.proofs.SmallSums.{held-in-64}
 use Rattle.fx_tap_sums.proofs.transforms.remainders.remainder.Goals as goal

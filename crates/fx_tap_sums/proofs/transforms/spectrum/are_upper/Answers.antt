@@ -1,5 +1,4 @@
-use Rattle.std.proofs.Common.{arith, rules, ◌≡◌, ◌%◌, below_more, ℤ, pos, get_or, of_z, w32}
-use mir.Val.{SFits}
+use Rattle.std.proofs.Common.{arith, rules, ◌≡◌, ◌%◌, below_more, ℤ, pos, get_or, of_z, w32, SFits}
 use Rattle.fx_tap_sums.proofs.Divided.{IsUpper, is_upper, none_of_both, upper_of}
 use Rattle.fx_tap_sums.proofs.transforms.spectrum.are_upper.Goals as goal
 

@@ -1,5 +1,4 @@
-use Rattle.std.proofs.Common.{◌≡◌, ◌+◌, take}
-use Rattle.std.specs.Prelude.{sum_by, unsigned_abs}
+use Rattle.std.proofs.Common.{◌≡◌, ◌+◌, take, sum_by, unsigned_abs}
 use Rattle.fx_tap_sums.proofs.transforms.spectrum.is_small.Given as goal
 
 abbrev pub invariant-weights : goal.invariant-weights

@@ -40,9 +40,7 @@ spread-requires g t c =
     let fits : AreRemainders (2 ^ 32) v = remainders_wider (20 * p) (2 ^ 32) v (omega (arith, c.requires.modulus)) below in
     let first : AreRemainders (2 ^ 32 - 2 * p) c.split_at_mut-low.result.1.now = rw c.split_at_mut-low.ensures.back (remainders_drop (2 ^ 32 - 2 * p) m v less) in
     let second : AreRemainders (2 ^ 32) c.split_at_mut-low.result.0.now = rw c.split_at_mut-low.ensures.front (remainders_take (2 ^ 32) m v (omega arith) fits) in
-    let front = c.split_at_mut-low.ensures.front_len in
-    let back = c.split_at_mut-low.ensures.back_len in
-    (omega arith, (c.requires.modulus, ((2 ^ (c.args.levels - 1), omega (arith, half.power, half.twice, front, back)), (omega (arith, half.twice, front, back), (first, second)))))
+    (omega arith, (c.requires.modulus, ((2 ^ (c.args.levels - 1), omega (arith, half.power, half.twice, c.split_at_mut-low.ensures.front_len, c.split_at_mut-low.ensures.back_len)), (omega (arith, half.twice, c.split_at_mut-low.ensures.front_len, c.split_at_mut-low.ensures.back_len), (first, second)))))
 
 pub are_bounded-requires : goal.are_bounded-requires
 are_bounded-requires g t c =

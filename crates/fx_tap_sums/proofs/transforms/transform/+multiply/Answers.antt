@@ -1,10 +1,11 @@
-use Rattle.std.proofs.Common.{arith, ◌≡◌, ◌<◌, ◌≤◌, ◌-◌, ◌*◌, ◌/◌, ◌^◌, ◌∙◌, refl, sym, ℕ, List, length, take, drop}
+use Rattle.std.proofs.Common.{arith, ◌≡◌, ◌<◌, ◌≤◌, ◌+◌, ◌-◌, ◌*◌, ◌/◌, ◌^◌, ◌∙◌, refl, ℕ, length}
 use Rattle.std.proofs.lemmas.Nat.{mul-le}
-use Rattle.fx_tap_sums.specs.Residues.{AreRemainders}
-use Rattle.fx_tap_sums.proofs.Leaves.{leaves_of_levels}
-use Rattle.fx_tap_sums.proofs.Quarters.{Quarters, place_of_quarters, product_of_quarters, quartered, quarters_are, quarters_fit}
+use Rattle.fx_tap_sums.proofs.Leaves.{product_by_quarters}
+use Rattle.fx_tap_sums.proofs.Quarters.{EachLess, EachLong, Quarters, as_long, joined_less, Quartered, place_of_quarters, quartered, quarters_are, quarters_fit, quarters_long}
 use Rattle.fx_tap_sums.proofs.Steps.{levels_bound, place_less}
-use Rattle.fx_tap_sums.proofs.Writes.{remainders_both, remainders_wider}
+use Rattle.fx_tap_sums.proofs.Writes.{remainders_wider}
+use Rattle.fx_tap_sums.proofs.transforms.transform.+multiply.Given as given
+use Rattle.fx_tap_sums.proofs.transforms.transform.+multiply.Goals.{After-spread_quarters}
 use Rattle.fx_tap_sums.proofs.transforms.transform.+multiply.Goals as goal
 
 pub multiply_thirty_two-requires : goal.multiply_thirty_two-requires
@@ -29,174 +30,93 @@ multiply_sixty_four-requires g t c =
 pub returns-then-levels-eq4-clause-product : goal.returns-then-levels-eq4-clause-product
 returns-then-levels-eq4-clause-product g t c = rw c.if-levels-eq4.true c.multiply_sixty_four.ensures.product
 
+some : (g : given.Over) (t : ℕ) (c : After-spread_quarters g t) → 5 ≤ c.args.levels
+some g t c = omega (arith, c.requires.levels, c.if-levels-eq3.false, c.if-levels-eq4.false)
+
+sizes : (g : given.Over) (t : ℕ) (c : After-spread_quarters g t) → Quartered c.args.levels (length c.args.values.now)
+sizes g t c = let enough = some g t c in quartered c.args.levels (length c.args.values.now) c.requires.power (omega arith)
+
+-- the values in quarters
+values : (g : given.Over) (t : ℕ) (c : After-spread_quarters g t) → Quarters (length c.args.values.now / 2) (length c.args.values.now / 2 / 2) c.args.values.now c.split_at_mut-low.result.0.now c.split_at_mut-low.result.1.now c.split_at_mut-first.result.0.now c.split_at_mut-first.result.1.now c.split_at_mut-third.result.0.now c.split_at_mut-third.result.1.now
+values g t c = record { front = c.split_at_mut-low.ensures.front; back = c.split_at_mut-low.ensures.back; first = c.split_at_mut-first.ensures.front; second = c.split_at_mut-first.ensures.back; third = c.split_at_mut-third.ensures.front; fourth = c.split_at_mut-third.ensures.back }
+
+limit : (g : given.Over) (t : ℕ) (c : After-spread_quarters g t) → c.args.place < 128
+limit g t c = place_of_quarters c.args.levels (length c.args.values.now) c.args.place c.requires.power (some g t c) c.requires.place
+
+-- what two levels made of the values
+spread_long : (g : given.Over) (t : ℕ) (c : After-spread_quarters g t) → EachLong (length c.args.values.now / 2 / 2) c.spread_quarters.new.first c.spread_quarters.new.second c.spread_quarters.new.third c.spread_quarters.new.fourth
+spread_long g t c = let auto = c.spread_quarters.auto in let s = sizes g t c in as_long _ _ _ _ _ _ _ _ _ (quarters_long _ _ _ _ _ _ _ _ _ (values g t c) s.first.twice s.second.twice) auto.first auto.second auto.third auto.fourth
+
+spread_less : (g : given.Over) (t : ℕ) (c : After-spread_quarters g t) → let b = (22 - 2 * c.args.levels) * g.row.P + 4 * g.row.P in EachLess b c.spread_quarters.new.first c.spread_quarters.new.second c.spread_quarters.new.third c.spread_quarters.new.fourth
+spread_less g t c =
+    let b : ℕ = (22 - 2 * c.args.levels) * g.row.P in
+    let s = sizes g t c in
+    let less = (quarters_are b _ _ _ _ _ _ _ _ _ (values g t c) s.first.twice s.second.twice c.requires.values).first in
+    let e = c.spread_quarters.ensures in
+    record { first = e.first_less b less; second = e.second_less b less; third = e.third_less b less; fourth = e.fourth_less b less }
+
 pub spread_quarters-requires : goal.spread_quarters-requires
 spread_quarters-requires g t c =
-    let v = c.args.values.now in
-    let n : ℕ = length v in
     let p = g.row.P in
     let levels = c.args.levels in
-    let some : 5 ≤ levels = omega (arith, c.requires.levels, c.if-levels-eq3.false, c.if-levels-eq4.false) in
-    let sizes = quartered levels n c.requires.power (omega (arith, some)) in
-    let long : n ≡ 2 * (n / 2) = sizes.first.twice in
-    let twice : n / 2 ≡ 2 * (n / 2 / 2) = sizes.second.twice in
-    let of_v : Quarters (n / 2) (n / 2 / 2) v c.split_at_mut-low.result.0.now c.split_at_mut-low.result.1.now c.split_at_mut-first.result.0.now c.split_at_mut-first.result.1.now c.split_at_mut-third.result.0.now c.split_at_mut-third.result.1.now = record { front = c.split_at_mut-low.ensures.front; back = c.split_at_mut-low.ensures.back; first = c.split_at_mut-first.ensures.front; second = c.split_at_mut-first.ensures.back; third = c.split_at_mut-third.ensures.front; fourth = c.split_at_mut-third.ensures.back } in
-    let low = c.split_at_mut-low.ensures.front_len in
-    let high = c.split_at_mut-low.ensures.back_len in
-    let one : length c.split_at_mut-first.result.0.now ≡ n / 2 / 2 = c.split_at_mut-first.ensures.front_len in
-    let two : length c.split_at_mut-first.result.1.now ≡ n / 2 / 2 = omega (arith, c.split_at_mut-first.ensures.back_len, low, twice) in
-    let three : length c.split_at_mut-third.result.0.now ≡ n / 2 / 2 = c.split_at_mut-third.ensures.front_len in
-    let four : length c.split_at_mut-third.result.1.now ≡ n / 2 / 2 = omega (arith, c.split_at_mut-third.ensures.back_len, high, long, twice) in
-    let limit = place_of_quarters levels n c.args.place c.requires.power some c.requires.place in
+    let v = c.args.values.now in
     let bound : ℕ = (22 - 2 * levels) * p in
+    let enough : 5 ≤ levels = omega (arith, c.requires.levels, c.if-levels-eq3.false, c.if-levels-eq4.false) in
+    let size = quartered levels (length v) c.requires.power (omega (arith, enough)) in
+    let quarters : Quarters (length v / 2) (length v / 2 / 2) v c.split_at_mut-low.result.0.now c.split_at_mut-low.result.1.now c.split_at_mut-first.result.0.now c.split_at_mut-first.result.1.now c.split_at_mut-third.result.0.now c.split_at_mut-third.result.1.now = record { front = c.split_at_mut-low.ensures.front; back = c.split_at_mut-low.ensures.back; first = c.split_at_mut-first.ensures.front; second = c.split_at_mut-first.ensures.back; third = c.split_at_mut-third.ensures.front; fourth = c.split_at_mut-third.ensures.back } in
+    let l = quarters_long _ _ _ _ _ _ _ _ _ quarters size.first.twice size.second.twice in
+    let limit = place_of_quarters levels (length v) c.args.place c.requires.power enough c.requires.place in
     let self : p ≤ p = omega arith in
-    let less : bound ≤ 18 * p = mul-le (22 - 2 * levels) p 18 p (omega (arith, some)) self in
-    let below : AreRemainders (18 * p) v = remainders_wider bound (18 * p) v less c.requires.values in
-    let fit = quarters_fit p (n / 2) (n / 2 / 2) v c.split_at_mut-low.result.0.now c.split_at_mut-low.result.1.now c.split_at_mut-first.result.0.now c.split_at_mut-first.result.1.now c.split_at_mut-third.result.0.now c.split_at_mut-third.result.1.now c.requires.modulus of_v long twice below in
-    (omega arith, (c.requires.modulus, (c.requires.table, (omega (arith, limit), ((2 ^ (levels - 2), one ∙ sizes.second.power), (omega (arith, one, two), (omega (arith, one, three), (omega (arith, one, four), fit))))))))
+    let less : bound ≤ 18 * p = mul-le (22 - 2 * levels) p 18 p (omega (arith, enough)) self in
+    let fit = quarters_fit p _ _ _ _ _ _ _ _ _ c.requires.modulus quarters size.first.twice size.second.twice (remainders_wider bound (18 * p) v less c.requires.values) in
+    (omega arith, (c.requires.modulus, (c.requires.table, (omega (arith, limit), ((2 ^ (levels - 2), l.first ∙ size.second.power), (omega (arith, l), (omega (arith, l), (omega (arith, l), fit))))))))
 
 pub is_quarter-requires-clause-bound : goal.is_quarter-requires-clause-bound
 is_quarter-requires-clause-bound g t c = levels_bound c.args.levels (length c.args.values.now) c.args.place c.requires.power c.requires.place
 
 pub is_quarter-requires-clause-values : goal.is_quarter-requires-clause-values
-is_quarter-requires-clause-values g t c =
-    let v = c.args.values.now in
-    let n : ℕ = length v in
-    let p = g.row.P in
-    let levels = c.args.levels in
-    let some : 5 ≤ levels = omega (arith, c.requires.levels, c.if-levels-eq3.false, c.if-levels-eq4.false) in
-    let sizes = quartered levels n c.requires.power (omega (arith, some)) in
-    let long : n ≡ 2 * (n / 2) = sizes.first.twice in
-    let twice : n / 2 ≡ 2 * (n / 2 / 2) = sizes.second.twice in
-    let of_v : Quarters (n / 2) (n / 2 / 2) v c.split_at_mut-low.result.0.now c.split_at_mut-low.result.1.now c.split_at_mut-first.result.0.now c.split_at_mut-first.result.1.now c.split_at_mut-third.result.0.now c.split_at_mut-third.result.1.now = record { front = c.split_at_mut-low.ensures.front; back = c.split_at_mut-low.ensures.back; first = c.split_at_mut-first.ensures.front; second = c.split_at_mut-first.ensures.back; third = c.split_at_mut-third.ensures.front; fourth = c.split_at_mut-third.ensures.back } in
-    let bound : ℕ = (22 - 2 * levels) * p in
-    let values = quarters_are bound (n / 2) (n / 2 / 2) v c.split_at_mut-low.result.0.now c.split_at_mut-low.result.1.now c.split_at_mut-first.result.0.now c.split_at_mut-first.result.1.now c.split_at_mut-third.result.0.now c.split_at_mut-third.result.1.now of_v long twice c.requires.values in
-    c.spread_quarters.ensures.first_less bound values.0
+is_quarter-requires-clause-values g t c = (spread_less g t (goal.at.is_quarter-requires-clause-values g t c).After-spread_quarters).first
 
 pub is_quarter-requires-2-clause-bound : goal.is_quarter-requires-2-clause-bound
 is_quarter-requires-2-clause-bound g t c = levels_bound c.args.levels (length c.args.values.now) c.args.place c.requires.power c.requires.place
 
 pub is_quarter-requires-2-clause-values : goal.is_quarter-requires-2-clause-values
-is_quarter-requires-2-clause-values g t c =
-    let v = c.args.values.now in
-    let n : ℕ = length v in
-    let p = g.row.P in
-    let levels = c.args.levels in
-    let some : 5 ≤ levels = omega (arith, c.requires.levels, c.if-levels-eq3.false, c.if-levels-eq4.false) in
-    let sizes = quartered levels n c.requires.power (omega (arith, some)) in
-    let long : n ≡ 2 * (n / 2) = sizes.first.twice in
-    let twice : n / 2 ≡ 2 * (n / 2 / 2) = sizes.second.twice in
-    let of_v : Quarters (n / 2) (n / 2 / 2) v c.split_at_mut-low.result.0.now c.split_at_mut-low.result.1.now c.split_at_mut-first.result.0.now c.split_at_mut-first.result.1.now c.split_at_mut-third.result.0.now c.split_at_mut-third.result.1.now = record { front = c.split_at_mut-low.ensures.front; back = c.split_at_mut-low.ensures.back; first = c.split_at_mut-first.ensures.front; second = c.split_at_mut-first.ensures.back; third = c.split_at_mut-third.ensures.front; fourth = c.split_at_mut-third.ensures.back } in
-    let bound : ℕ = (22 - 2 * levels) * p in
-    let values = quarters_are bound (n / 2) (n / 2 / 2) v c.split_at_mut-low.result.0.now c.split_at_mut-low.result.1.now c.split_at_mut-first.result.0.now c.split_at_mut-first.result.1.now c.split_at_mut-third.result.0.now c.split_at_mut-third.result.1.now of_v long twice c.requires.values in
-    c.spread_quarters.ensures.second_less bound values.0
+is_quarter-requires-2-clause-values g t c = (spread_less g t (goal.at.is_quarter-requires-2-clause-values g t c).After-spread_quarters).second
 
 pub is_quarter-requires-3-clause-bound : goal.is_quarter-requires-3-clause-bound
 is_quarter-requires-3-clause-bound g t c = levels_bound c.args.levels (length c.args.values.now) c.args.place c.requires.power c.requires.place
 
 pub is_quarter-requires-3-clause-values : goal.is_quarter-requires-3-clause-values
-is_quarter-requires-3-clause-values g t c =
-    let v = c.args.values.now in
-    let n : ℕ = length v in
-    let p = g.row.P in
-    let levels = c.args.levels in
-    let some : 5 ≤ levels = omega (arith, c.requires.levels, c.if-levels-eq3.false, c.if-levels-eq4.false) in
-    let sizes = quartered levels n c.requires.power (omega (arith, some)) in
-    let long : n ≡ 2 * (n / 2) = sizes.first.twice in
-    let twice : n / 2 ≡ 2 * (n / 2 / 2) = sizes.second.twice in
-    let of_v : Quarters (n / 2) (n / 2 / 2) v c.split_at_mut-low.result.0.now c.split_at_mut-low.result.1.now c.split_at_mut-first.result.0.now c.split_at_mut-first.result.1.now c.split_at_mut-third.result.0.now c.split_at_mut-third.result.1.now = record { front = c.split_at_mut-low.ensures.front; back = c.split_at_mut-low.ensures.back; first = c.split_at_mut-first.ensures.front; second = c.split_at_mut-first.ensures.back; third = c.split_at_mut-third.ensures.front; fourth = c.split_at_mut-third.ensures.back } in
-    let bound : ℕ = (22 - 2 * levels) * p in
-    let values = quarters_are bound (n / 2) (n / 2 / 2) v c.split_at_mut-low.result.0.now c.split_at_mut-low.result.1.now c.split_at_mut-first.result.0.now c.split_at_mut-first.result.1.now c.split_at_mut-third.result.0.now c.split_at_mut-third.result.1.now of_v long twice c.requires.values in
-    c.spread_quarters.ensures.third_less bound values.0
+is_quarter-requires-3-clause-values g t c = (spread_less g t (goal.at.is_quarter-requires-3-clause-values g t c).After-spread_quarters).third
 
 pub is_quarter-requires-4-clause-bound : goal.is_quarter-requires-4-clause-bound
 is_quarter-requires-4-clause-bound g t c = levels_bound c.args.levels (length c.args.values.now) c.args.place c.requires.power c.requires.place
 
 pub is_quarter-requires-4-clause-values : goal.is_quarter-requires-4-clause-values
-is_quarter-requires-4-clause-values g t c =
-    let v = c.args.values.now in
-    let n : ℕ = length v in
-    let p = g.row.P in
-    let levels = c.args.levels in
-    let some : 5 ≤ levels = omega (arith, c.requires.levels, c.if-levels-eq3.false, c.if-levels-eq4.false) in
-    let sizes = quartered levels n c.requires.power (omega (arith, some)) in
-    let long : n ≡ 2 * (n / 2) = sizes.first.twice in
-    let twice : n / 2 ≡ 2 * (n / 2 / 2) = sizes.second.twice in
-    let of_v : Quarters (n / 2) (n / 2 / 2) v c.split_at_mut-low.result.0.now c.split_at_mut-low.result.1.now c.split_at_mut-first.result.0.now c.split_at_mut-first.result.1.now c.split_at_mut-third.result.0.now c.split_at_mut-third.result.1.now = record { front = c.split_at_mut-low.ensures.front; back = c.split_at_mut-low.ensures.back; first = c.split_at_mut-first.ensures.front; second = c.split_at_mut-first.ensures.back; third = c.split_at_mut-third.ensures.front; fourth = c.split_at_mut-third.ensures.back } in
-    let bound : ℕ = (22 - 2 * levels) * p in
-    let values = quarters_are bound (n / 2) (n / 2 / 2) v c.split_at_mut-low.result.0.now c.split_at_mut-low.result.1.now c.split_at_mut-first.result.0.now c.split_at_mut-first.result.1.now c.split_at_mut-third.result.0.now c.split_at_mut-third.result.1.now of_v long twice c.requires.values in
-    c.spread_quarters.ensures.fourth_less bound values.0
+is_quarter-requires-4-clause-values g t c = (spread_less g t (goal.at.is_quarter-requires-4-clause-values g t c).After-spread_quarters).fourth
 
 pub gather_quarters-requires : goal.gather_quarters-requires
 gather_quarters-requires g t c =
-    let v = c.args.values.now in
-    let n : ℕ = length v in
-    let levels = c.args.levels in
-    let some : 5 ≤ levels = omega (arith, c.requires.levels, c.if-levels-eq3.false, c.if-levels-eq4.false) in
-    let sizes = quartered levels n c.requires.power (omega (arith, some)) in
-    let long : n ≡ 2 * (n / 2) = sizes.first.twice in
-    let twice : n / 2 ≡ 2 * (n / 2 / 2) = sizes.second.twice in
-    let low = c.split_at_mut-low.ensures.front_len in
-    let high = c.split_at_mut-low.ensures.back_len in
-    let one : length c.split_at_mut-first.result.0.now ≡ n / 2 / 2 = c.split_at_mut-first.ensures.front_len in
-    let two : length c.split_at_mut-first.result.1.now ≡ n / 2 / 2 = omega (arith, c.split_at_mut-first.ensures.back_len, low, twice) in
-    let three : length c.split_at_mut-third.result.0.now ≡ n / 2 / 2 = c.split_at_mut-third.ensures.front_len in
-    let four : length c.split_at_mut-third.result.1.now ≡ n / 2 / 2 = omega (arith, c.split_at_mut-third.ensures.back_len, high, long, twice) in
-    let one_long : length c.multiply.new.values ≡ n / 2 / 2 = c.multiply.auto.values ∙ c.spread_quarters.auto.first ∙ one in
-    let two_long : length c.multiply-2.new.values ≡ n / 2 / 2 = c.multiply-2.auto.values ∙ c.spread_quarters.auto.second ∙ two in
-    let three_long : length c.multiply-3.new.values ≡ n / 2 / 2 = c.multiply-3.auto.values ∙ c.spread_quarters.auto.third ∙ three in
-    let four_long : length c.multiply-4.new.values ≡ n / 2 / 2 = c.multiply-4.auto.values ∙ c.spread_quarters.auto.fourth ∙ four in
-    let limit = place_of_quarters levels n c.args.place c.requires.power some c.requires.place in
-    (omega arith, (c.requires.modulus, (c.requires.beside, (omega (arith, limit), ((2 ^ (levels - 2), one_long ∙ sizes.second.power), (omega (arith, one_long, two_long), (omega (arith, one_long, three_long), (omega (arith, one_long, four_long), (c.multiply.ensures.values, (c.multiply-2.ensures.values, (c.multiply-3.ensures.values, c.multiply-4.ensures.values)))))))))))
+    let s = (goal.at.gather_quarters-requires g t c).After-spread_quarters in
+    let l = as_long _ _ _ _ _ _ _ _ _ (spread_long g t s) c.multiply.auto.values c.multiply-2.auto.values c.multiply-3.auto.values c.multiply-4.auto.values in
+    (omega arith, (c.requires.modulus, (c.requires.beside, (omega (arith, limit g t s), ((2 ^ (c.args.levels - 2), l.first ∙ (sizes g t s).second.power), (omega (arith, l), (omega (arith, l), (omega (arith, l), (c.multiply.ensures.values, (c.multiply-2.ensures.values, (c.multiply-3.ensures.values, c.multiply-4.ensures.values)))))))))))
 
 pub returns-clause-values : goal.returns-clause-values
 returns-clause-values g t c =
-    let p : ℕ = 4 * g.row.P in
-    let low = remainders_both p c.gather_quarters.new.first c.gather_quarters.new.second c.gather_quarters.ensures.first_less c.gather_quarters.ensures.second_less in
-    let high = remainders_both p c.gather_quarters.new.third c.gather_quarters.new.fourth c.gather_quarters.ensures.third_less c.gather_quarters.ensures.fourth_less in
-    remainders_both p _ _ low high
+    let e = c.gather_quarters.ensures in
+    joined_less (4 * g.row.P) _ _ _ _ (record { first = e.first_less; second = e.second_less; third = e.third_less; fourth = e.fourth_less })
 
 pub returns-clause-product : goal.returns-clause-product
-returns-clause-product g t c = λ s a h f square a_long h_long same transform are.
-    let roots = c.args.roots.now in
-    let inverses = c.args.inverses.now in
-    let place = c.args.place in
-    let v = c.args.values.now in
-    let n : ℕ = length v in
-    let p = g.row.P in
-    let levels = c.args.levels in
-    let some : 5 ≤ levels = omega (arith, c.requires.levels, c.if-levels-eq3.false, c.if-levels-eq4.false) in
-    let sizes = quartered levels n c.requires.power (omega (arith, some)) in
-    let long : n ≡ 2 * (n / 2) = sizes.first.twice in
-    let twice : n / 2 ≡ 2 * (n / 2 / 2) = sizes.second.twice in
-    let of_v : Quarters (n / 2) (n / 2 / 2) v c.split_at_mut-low.result.0.now c.split_at_mut-low.result.1.now c.split_at_mut-first.result.0.now c.split_at_mut-first.result.1.now c.split_at_mut-third.result.0.now c.split_at_mut-third.result.1.now = record { front = c.split_at_mut-low.ensures.front; back = c.split_at_mut-low.ensures.back; first = c.split_at_mut-first.ensures.front; second = c.split_at_mut-first.ensures.back; third = c.split_at_mut-third.ensures.front; fourth = c.split_at_mut-third.ensures.back } in
-    let leaves = c.args.leaves.now in
-    let f_long : length f ≡ n = omega (arith, are.long, c.requires.as_many) in
-    let of_leaves : Quarters (2 * (n / 2)) (n / 2) leaves c.split_at.result.0.now c.split_at.result.1.now c.split_at-2.result.0.now c.split_at-2.result.1.now c.split_at-3.result.0.now c.split_at-3.result.1.now = record { front = c.split_at.ensures.front; back = c.split_at.ensures.back; first = c.split_at-2.ensures.front; second = c.split_at-2.ensures.back; third = c.split_at-3.ensures.front; fourth = c.split_at-3.ensures.back } in
-    let f_front : List ℕ = take (n / 2) f in
-    let f_back : List ℕ = drop (n / 2) f in
-    let q : ℕ = n / 2 / 2 in
-    let of_f : Quarters (n / 2) q f f_front f_back (take q f_front) (drop q f_front) (take q f_back) (drop q f_back) = record { front = refl; back = refl; first = refl; second = refl; third = refl; fourth = refl } in
-    let parts = leaves_of_levels p levels n place roots f leaves c.split_at.result.0.now c.split_at.result.1.now c.split_at-2.result.0.now c.split_at-2.result.1.now c.split_at-3.result.0.now c.split_at-3.result.1.now (omega (arith, some)) f_long sizes of_leaves are in
-    let low = c.split_at_mut-low.ensures.front_len in
-    let high = c.split_at_mut-low.ensures.back_len in
-    let one : length c.split_at_mut-first.result.0.now ≡ n / 2 / 2 = c.split_at_mut-first.ensures.front_len in
-    let two : length c.split_at_mut-first.result.1.now ≡ n / 2 / 2 = omega (arith, c.split_at_mut-first.ensures.back_len, low, twice) in
-    let three : length c.split_at_mut-third.result.0.now ≡ n / 2 / 2 = c.split_at_mut-third.ensures.front_len in
-    let four : length c.split_at_mut-third.result.1.now ≡ n / 2 / 2 = omega (arith, c.split_at_mut-third.ensures.back_len, high, long, twice) in
-    let one_long : length c.multiply.new.values ≡ n / 2 / 2 = c.multiply.auto.values ∙ c.spread_quarters.auto.first ∙ one in
-    let two_long : length c.multiply-2.new.values ≡ n / 2 / 2 = c.multiply-2.auto.values ∙ c.spread_quarters.auto.second ∙ two in
-    let three_long : length c.multiply-3.new.values ≡ n / 2 / 2 = c.multiply-3.auto.values ∙ c.spread_quarters.auto.third ∙ three in
-    let four_long : length c.multiply-4.new.values ≡ n / 2 / 2 = c.multiply-4.auto.values ∙ c.spread_quarters.auto.fourth ∙ four in
-    let limit : place < 128 = place_of_quarters levels n place c.requires.power some c.requires.place in
-    product_of_quarters p levels n (levels - 1) (n / 2) (levels - 2) (n / 2 / 2) place roots inverses v c.split_at_mut-low.result.0.now c.split_at_mut-low.result.1.now c.split_at_mut-first.result.0.now c.split_at_mut-first.result.1.now c.split_at_mut-third.result.0.now c.split_at_mut-third.result.1.now f f_front f_back (take q f_front) (drop q f_front) (take q f_back) (drop q f_back) c.spread_quarters.new.first c.spread_quarters.new.second c.spread_quarters.new.third c.spread_quarters.new.fourth c.multiply.new.values c.multiply-2.new.values c.multiply-3.new.values c.multiply-4.new.values c.gather_quarters.new.first c.gather_quarters.new.second c.gather_quarters.new.third c.gather_quarters.new.fourth
-    (omega (arith, c.requires.modulus)) sizes.first sizes.second c.requires.are limit refl of_v of_f
-    (c.spread_quarters.auto.first ∙ one) (c.spread_quarters.auto.second ∙ two) (c.spread_quarters.auto.third ∙ three) (c.spread_quarters.auto.fourth ∙ four)
-    one_long two_long three_long four_long
-    (c.gather_quarters.auto.first ∙ one_long) (c.gather_quarters.auto.second ∙ two_long) (c.gather_quarters.auto.third ∙ three_long) (c.gather_quarters.auto.fourth ∙ four_long)
-    c.spread_quarters.ensures.first c.spread_quarters.ensures.second c.spread_quarters.ensures.third c.spread_quarters.ensures.fourth
-    (λ s a h square a_long h_long same transform. c.multiply.ensures.product s a h (drop q f_back) square (a_long ∙ sym (c.spread_quarters.auto.first ∙ one)) (h_long ∙ sym (c.spread_quarters.auto.first ∙ one)) same transform parts.0)
-    (λ s a h square a_long h_long same transform. c.multiply-2.ensures.product s a h (take q f_back) square (a_long ∙ sym (c.spread_quarters.auto.second ∙ two)) (h_long ∙ sym (c.spread_quarters.auto.second ∙ two)) same transform parts.1.0)
-    (λ s a h square a_long h_long same transform. c.multiply-3.ensures.product s a h (drop q f_front) square (a_long ∙ sym (c.spread_quarters.auto.third ∙ three)) (h_long ∙ sym (c.spread_quarters.auto.third ∙ three)) same transform parts.1.1.0)
-    (λ s a h square a_long h_long same transform. c.multiply-4.ensures.product s a h (take q f_front) square (a_long ∙ sym (c.spread_quarters.auto.fourth ∙ four)) (h_long ∙ sym (c.spread_quarters.auto.fourth ∙ four)) same transform parts.1.1.1)
-    c.gather_quarters.ensures.first c.gather_quarters.ensures.second c.gather_quarters.ensures.third c.gather_quarters.ensures.fourth
-    s a h square a_long h_long same transform
+returns-clause-product g t c =
+    let s = (goal.at.returns-clause-product g t c).After-spread_quarters in
+    let u_long = as_long _ _ _ _ _ _ _ _ _ (spread_long g t s) c.multiply.auto.values c.multiply-2.auto.values c.multiply-3.auto.values c.multiply-4.auto.values in
+    let x = c.spread_quarters in
+    let w = c.gather_quarters in
+    let w_long = as_long _ _ _ _ _ w.new.first w.new.second w.new.third w.new.fourth u_long w.auto.first w.auto.second w.auto.third w.auto.fourth in
+    product_by_quarters g.row.P c.args.levels (length c.args.values.now) c.args.place c.args.roots.now c.args.inverses.now _ _ _ _ _ _ _ _ _ _ _ _ _ _ x.new.first x.new.second x.new.third x.new.fourth
+    c.multiply.new.values c.multiply-2.new.values c.multiply-3.new.values c.multiply-4.new.values w.new.first w.new.second w.new.third w.new.fourth
+    (omega (arith, c.requires.modulus)) c.requires.power c.requires.levels c.requires.are (limit g t s) refl c.requires.as_many (values g t s)
+    (record { front = c.split_at.ensures.front; back = c.split_at.ensures.back; first = c.split_at-2.ensures.front; second = c.split_at-2.ensures.back; third = c.split_at-3.ensures.front; fourth = c.split_at-3.ensures.back })
+    (spread_long g t s) u_long w_long x.ensures.first x.ensures.second x.ensures.third x.ensures.fourth
+    c.multiply.ensures.product c.multiply-2.ensures.product c.multiply-3.ensures.product c.multiply-4.ensures.product
+    w.ensures.first w.ensures.second w.ensures.third w.ensures.fourth

@@ -1,5 +1,4 @@
-use Rattle.std.proofs.Common.{arith, ◌<◌, ◌≡◌, ◌+◌, ◌*◌, ◌∙◌, ℕ, ℤ, pos, ◌+ℤ◌, ◌*ℤ◌, get_or, slice_index_or}
-use Rattle.std.specs.Prelude.{◌-ℤ◌}
+use Rattle.std.proofs.Common.{arith, ◌<◌, ◌≡◌, ◌+◌, ◌*◌, ◌∙◌, ℕ, ℤ, pos, ◌+ℤ◌, ◌*ℤ◌, get_or, slice_index_or, ◌-ℤ◌}
 use Rattle.fx_tap_sums.specs.Quarters.{difference_at, sum_at}
 use Rattle.fx_tap_sums.specs.Residues.{Same}
 use Rattle.fx_tap_sums.specs.Transform.{root_at}

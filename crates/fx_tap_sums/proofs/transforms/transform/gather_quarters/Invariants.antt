@@ -1,5 +1,4 @@
-use Rattle.std.proofs.Common.{◌+◌, ◌≡◌, ◌*◌, ◌<◌, ◌≤◌, ℕ, pos, ◌+ℤ◌, ◌*ℤ◌, slice_index_or}
-use Rattle.std.specs.Prelude.{◌-ℤ◌}
+use Rattle.std.proofs.Common.{◌+◌, ◌≡◌, ◌*◌, ◌<◌, ◌≤◌, ℕ, pos, ◌+ℤ◌, ◌*ℤ◌, slice_index_or, ◌-ℤ◌}
 use Rattle.fx_tap_sums.specs.Quarters.{difference_at, sum_at}
 use Rattle.fx_tap_sums.specs.Residues.{Same, AreRemainders}
 use Rattle.fx_tap_sums.specs.Transform.{root_at}

@@ -1,7 +1,6 @@
-use Rattle.std.proofs.Common.{arith, ◌<◌, ◌≤◌, ◌≡◌, ◌+◌, ◌-◌, ◌*◌, ◌^◌, ◌∙◌, ap, refl, ℤ, pos, neg_ℤ, length, take, drop, slice_index_or}
+use Rattle.std.proofs.Common.{arith, ◌<◌, ◌≤◌, ◌≡◌, ◌+◌, ◌-◌, ◌*◌, ◌^◌, ◌∙◌, ap, refl, ℤ, pos, neg_ℤ, length, take, drop, slice_index_or, inl, inr}
 use Rattle.std.proofs.lemmas.Bool.{cases_lt}
 use Rattle.std.proofs.lemmas.List.{length-take-le, length-drop}
-use mathlib.Core.Logic.{inl, inr}
 use Rattle.fx_tap_sums.specs.Residues.{AreFour, inverse_of_word}
 use Rattle.fx_tap_sums.specs.Transform.{combined, root_at}
 use Rattle.fx_tap_sums.proofs.Cyclic.{length-combined}

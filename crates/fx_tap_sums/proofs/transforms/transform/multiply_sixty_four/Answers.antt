@@ -12,8 +12,7 @@ spread-requires g c =
     let below : AreRemainders (20 * p) v = remainders_wider (14 * p) (20 * p) v (omega arith) c.requires.values in
     let fit = halves_fit p 32 v c.split_at_mut-low.result.0.now c.split_at_mut-low.result.1.now c.requires.modulus (omega (arith, c.requires.sixty_four)) c.split_at_mut-low.ensures.front c.split_at_mut-low.ensures.back below in
     let front : length c.split_at_mut-low.result.0.now ≡ 32 = c.split_at_mut-low.ensures.front_len in
-    let back = c.split_at_mut-low.ensures.back_len in
-    (omega arith, (c.requires.modulus, ((8, omega (arith, front)), (omega (arith, c.requires.sixty_four, front, back), fit))))
+    (omega arith, (c.requires.modulus, ((8, omega (arith, front)), (omega (arith, c.requires.sixty_four, front, c.split_at_mut-low.ensures.back_len), fit))))
 
 pub multiply_thirty_two-requires : goal.multiply_thirty_two-requires
 multiply_thirty_two-requires g c =

@@ -24,7 +24,6 @@ returns-clause-same g c =
     let v : ℕ = c.self.inside.value in
     let n : ℕ = c.args.number in
     let t : ℕ = (c.self.inside.quotient * n) / 2 ^ 32 in
-    let low = product_low g.row.P v n c.self.inside.quotient c.self.invariant.1 in
     let rest : Same (pos g.row.P) (pos c.reduced.result) (pos (v * n - t * g.row.P)) = rw (c.from.ensures, c.from-2.ensures, c.from-3.ensures, c.from-4.ensures, c.from-5.ensures) at c.reduced.ensures.same in
     rw (← c.self.view_is)
-    (same_on (pos g.row.P) (pos c.reduced.result) (pos (v * n - t * g.row.P)) (pos (v * n)) rest (same_less g.row.P (v * n - t * g.row.P) (v * n) t (omega (arith, low))))
+    (same_on (pos g.row.P) (pos c.reduced.result) (pos (v * n - t * g.row.P)) (pos (v * n)) rest (same_less g.row.P (v * n - t * g.row.P) (v * n) t (omega (arith, product_low g.row.P v n c.self.inside.quotient c.self.invariant.1))))
