@@ -28,8 +28,8 @@ channels-preserved c =
           let late : n ≤ slice_index ds k = late-by (slice_index ds k) n (c.requires.late k inside) some in
           let same : c.args.line.now.channels ≡ ch = c.requires.channels in
           let new : List ℤ = w.channel_before_into.new.out in
-          let stay = rw same at (λ (p : ℕ) other. w.channel_before_into.ensures.others p other (pos 0)) in
-          let others : (i q : ℕ) → q < ch → (q ≡ k → ⊥) → get_or new (i * ch + q) (pos 0) ≡ get_or c.channels.out (i * ch + q) (pos 0) = λ i q in_q other. stay (i * ch + q) (other-channel ch k n i q inside in_q other) in
+          let stay = rw same at w.channel_before_into.ensures.others in
+          let others : (i q : ℕ) → q < ch → (q ≡ k → ⊥) → get_or new (i * ch + q) (pos 0) ≡ get_or c.channels.out (i * ch + q) (pos 0) = λ i q in_q other. stay (i * ch + q) (other-channel ch k n i q inside in_q other) (pos 0) in
           rw w.out-is
           record {
             done = channel-put F c.channels.out new ch k n inside (λ i l. ap (λ m. get_or new (i * m + k) (pos 0)) (sym same) ∙ w.channel_before_into.ensures.put i l (pos 0) ∙ late-sample c.args.line.now xs (slice_index ds k) n i k late l (omega (arith, same, inside))) others old.done;
