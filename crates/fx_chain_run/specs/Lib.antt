@@ -1,5 +1,6 @@
 pub mod Block
 pub mod Due
+pub mod FlowRun
 pub mod FrameWriter
 pub mod NextFrame
 pub mod Pump

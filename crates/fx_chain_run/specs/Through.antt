@@ -8,11 +8,16 @@ use Rattle.fx_chain_flow.specs.Parts.{Parts, given_by, taken_of}
 use Rattle.fx_chain_flow.specs.Steps.{IsDone, IsHungry, MovedOn, given_out, rest_of, wholes_of}
 use Rattle.fx_chain_flow.specs.declared.flow.Step.{Step}
 use Rattle.fx_sound.specs.Output.{Pending, Sent, SendsMore}
-use Rattle.fx_chain_run.specs.FrameWriter.{WroteFront, coded, coded_clips}
+use Rattle.fx_chain_run.specs.declared.frame_writer.FrameWriter.{FrameWriter}
+use Rattle.fx_chain_run.specs.FrameWriter.{WroteAll, WroteFront, coded, coded_clips}
 
 -- these bytes were appended to what is to be sent, or the writer took a prefix of that
 abbrev pub SendsFront : Option (List ℕ) → Option (List ℕ) → Pending → Pending → List ℕ → Type 0
 SendsFront now new_now out new_out bytes = (first : Option (List ℕ)) (all : List ℕ) → Sent first now out all → WroteFront first new_now new_out.written (all ++ bytes)
+
+-- these bytes were appended to what is to be sent, and the writer took all of it
+abbrev pub SendsAll : Option (List ℕ) → Option (List ℕ) → Pending → Pending → List ℕ → Type 0
+SendsAll now new_now out new_out bytes = (first : Option (List ℕ)) (all : List ℕ) → Sent first now out all → WroteAll first new_now new_out.written (all ++ bytes)
 
 module _ {S R : Type 0} (acts : Acts S R) where
   -- The state of a flow after a sequence of calls: it took these frames, each where it was hungry, gave those
@@ -52,6 +57,14 @@ module _ {S R : Type 0} (acts : Acts S R) where
     pub gives : RunGives old new given
     pub clipped : new_clips ≡ clips + coded_clips coding given
     pub front : SendsFront now new_now out new_out (coded coding given)
+
+  -- the frames went to a frame writer
+  abbrev pub DrainsInto : Parts S → Parts S → FrameWriter → FrameWriter → Option (List ℕ) → Option (List ℕ) → Type 0
+  DrainsInto old new w w' now new_now = Drained old new w.coding w.clips w'.clips now new_now w.output w'.output
+
+  -- the same where the writer failed
+  abbrev pub CutOffInto : Parts S → Parts S → FrameWriter → FrameWriter → Option (List ℕ) → Option (List ℕ) → Type 0
+  CutOffInto old new w w' now new_now = RunCutOff old new w.coding w.clips w'.clips now new_now w.output w'.output
 
   -- A flow took these frames, and what it gave for them was sent after the head. Its output for them and any further
   -- input begins so.

@@ -47,7 +47,8 @@ fn pass_block<R, S: PassesEarly>(
     requires fits { max_of (kinds S.acts flow.old.stages) max_frames ≤ 2 ^ 56 }
     requires free { bytes_put frame_writer.old.output ≤ 68 + 64 * given_by S.acts flow.old.left flow.old.stages }
     requires bound { frame_writer.old.clips ≤ 16 * given_by S.acts flow.old.left flow.old.stages }
-    ensures blocked { Blocked S.acts flow.old flow.new source.old source.new progress.old progress.new frame_writer.old.coding frame_writer.old.clips frame_writer.new.clips frame_writer.old.output frame_writer.new.output }
+    ensures blocked { Blocked S.acts flow.old flow.new source.old source.new progress.old progress.new
+        frame_writer.old.coding frame_writer.old.clips frame_writer.new.clips frame_writer.old.output frame_writer.new.output }
     ensures free { bytes_put frame_writer.new.output ≤ 68 + 64 * given_by S.acts flow.new.left flow.new.stages }
     ensures bound { frame_writer.new.clips ≤ 16 * given_by S.acts flow.new.left flow.new.stages }
     ensures coding { frame_writer.new.coding ≡ frame_writer.old.coding }
@@ -84,9 +85,11 @@ pub fn pump_block<R: ReadBeside, S: PassesEarly, W: ByteOut>(
     requires fits { max_of (kinds S.acts flow.old.stages) max_frames ≤ 2 ^ 56 }
     requires bound { OutputBound S.acts flow.old frame_writer.old }
     ensures pumped { OnOk result (PumpsOn S.acts R.reads flow.old flow.new source.old source.new
-        progress.old progress.new frame_writer.old frame_writer.new (W.writes.taken writer.old) (W.writes.taken writer.new)) }
+        progress.old progress.new frame_writer.old frame_writer.new
+        (W.writes.taken writer.old) (W.writes.taken writer.new)) }
     ensures cut_off { OnErr result (PumpsFront S.acts R.reads flow.old flow.new source.old source.new
-        progress.old progress.new frame_writer.old frame_writer.new (W.writes.taken writer.old) (W.writes.taken writer.new)) }
+        progress.old progress.new frame_writer.old frame_writer.new
+        (W.writes.taken writer.old) (W.writes.taken writer.new)) }
     ensures passed { PassedHeld source.old source.new progress.old progress.new }
     ensures failures { CountsFailure (W.writes.failures writer.old) (W.writes.failures writer.new) result }
 {

@@ -1,6 +1,6 @@
 //! A flow stepped until it waits, and what it gives sent.
 ghost use Rattle.std.specs.Prelude.{◌≡◌, ◌+◌, ◌*◌, ◌≤◌, ◌^◌, OnErr, OnOk};
-ghost use Rattle.fx_chain_run.specs.Through.{RunCutOff, Drained, RunWaits};
+ghost use Rattle.fx_chain_run.specs.Through.{CutOffInto, DrainsInto, RunWaits};
 ghost use Rattle.fx_chain_flow.specs.Parts.{given_by, max_of};
 ghost use Rattle.fx_chain_flow.specs.Sound.{max_frames};
 ghost use Rattle.fx_frame_base.specs.Holds.{kinds};
@@ -22,10 +22,13 @@ pub fn drain<S: PassesEarly, W: ByteOut>(
     requires fits { max_of (kinds S.acts flow.old.stages) max_frames ≤ 2 ^ 56 }
     requires free { bytes_put frame_writer.old.output ≤ 68 + 64 * given_by S.acts flow.old.left flow.old.stages }
     requires bound { frame_writer.old.clips ≤ 16 * given_by S.acts flow.old.left flow.old.stages }
-    ensures drained { OnOk result (Drained S.acts flow.old flow.new frame_writer.old.coding frame_writer.old.clips frame_writer.new.clips (W.writes.taken writer.old) (W.writes.taken writer.new) frame_writer.old.output frame_writer.new.output) }
-    ensures cut_off { OnErr result (RunCutOff S.acts flow.old flow.new frame_writer.old.coding frame_writer.old.clips frame_writer.new.clips (W.writes.taken writer.old) (W.writes.taken writer.new) frame_writer.old.output frame_writer.new.output) }
+    ensures drained { OnOk result (DrainsInto S.acts flow.old flow.new frame_writer.old frame_writer.new
+        (W.writes.taken writer.old) (W.writes.taken writer.new)) }
+    ensures cut_off { OnErr result (CutOffInto S.acts flow.old flow.new frame_writer.old frame_writer.new
+        (W.writes.taken writer.old) (W.writes.taken writer.new)) }
     ensures waits { OnOk result (RunWaits S.acts flow.new) }
-    ensures free { OnOk result (bytes_put frame_writer.new.output ≤ 68 + 64 * given_by S.acts flow.new.left flow.new.stages) }
+    ensures free { OnOk result
+        (bytes_put frame_writer.new.output ≤ 68 + 64 * given_by S.acts flow.new.left flow.new.stages) }
     ensures bound { frame_writer.new.clips ≤ 16 * given_by S.acts flow.new.left flow.new.stages }
     ensures coding { frame_writer.new.coding ≡ frame_writer.old.coding }
     ensures failures { CountsFailure (W.writes.failures writer.old) (W.writes.failures writer.new) result }

@@ -1,21 +1,16 @@
 //! A whole sound through a flow, from its source to a writer.
-ghost use Rattle.std.specs.Prelude.{◌≡◌, ◌≢◌, ℕ, ◌+◌, ◌*◌, ◌<◌, ◌≤◌, ◌^◌, ◌++◌, [], true, IfErr, IfOk, IsTrue, List, MatchResult, None, OnErr, OnOk, Option, Some, length, map};
+ghost use Rattle.std.specs.Prelude.{◌≡◌, ◌+◌, ◌<◌, ◌≤◌, ◌^◌, [], true, IfErr, IfOk, None, OnErr, OnOk, length, map};
 ghost use Rattle.fx_chain_run.specs.Due.{dues};
-ghost use Rattle.fx_chain_run.specs.FrameWriter.{WroteAll, WroteFront};
-ghost use Rattle.fx_chain_run.specs.Report.{Completed, HasCause, ReadBefore, Stands, StoppedAt, after_reported, cause_of, clips_now, pad, head_for, report_at, report_in, start_of};
-ghost use Rattle.fx_chain_run.specs.Run.{WantsMore, sound_frames};
-ghost use Rattle.fx_chain_run.specs.Waiting.{WaitedUntil, due_bytes};
-ghost use Rattle.fx_sound.specs.Container.{ReadAllDelivered};
+ghost use Rattle.fx_chain_run.specs.FlowRun.{CountsCauses, CountsFlow, HasHead, RanPart, RanWhole, SourceAt};
+ghost use Rattle.fx_chain_run.specs.Pumping.{BeginsFlow, WaitedForDue};
+ghost use Rattle.fx_chain_run.specs.Report.{clips_now, head_for, pad, report_in, start_of};
+ghost use Rattle.fx_chain_run.specs.Through.{SendsAll, SendsFront};
 ghost use Rattle.fx_chain_flow.specs.Parts.{given_by, moves_of, max_of, taken_of, work};
 ghost use Rattle.fx_chain_flow.specs.Sound.{max_frames};
 ghost use Rattle.fx_chain_flow.specs.Steps.{IsDone, IsHungry, wholes_of};
-ghost use Rattle.fx_frame_base.specs.Holds.{kinds, recipes, total};
-ghost use Rattle.fx_frame_base.specs.Io.{CountsFailure, saturated};
-ghost use Rattle.fx_sound.specs.Kind.{is_coding_of};
-ghost use Rattle.fx_sound.specs.Known.{IfKnown};
-ghost use Rattle.fx_sound.specs.Output.{Sent, bytes_put};
-ghost use Rattle.fx_sound.specs.Source.{HoldsWhatCame, to_come};
-ghost use Rattle.fx_sound.specs.Sound.{size_of};
+ghost use Rattle.fx_frame_base.specs.Holds.{kinds, total};
+ghost use Rattle.fx_frame_base.specs.Io.{CountsFailure};
+ghost use Rattle.fx_sound.specs.Output.{bytes_put};
 ghost use Rattle.fx_sound.specs.Writing.{written_head};
 
 use crate::frame_writer::FrameWriter;
@@ -88,8 +83,10 @@ fn close<W: ByteOut>(
 ) -> Result<(), Failed>
     requires short { length last.now ≤ 1 }
     requires free { bytes_put frame_writer.old.output + 1 < 2 ^ 64 }
-    ensures wrote { OnOk result ((first : Option (List ℕ)) (all : List ℕ) → Sent first (W.writes.taken writer.old) frame_writer.old.output all → WroteAll first (W.writes.taken writer.new) frame_writer.new.output.written (all ++ last.now)) }
-    ensures front { OnErr result ((first : Option (List ℕ)) (all : List ℕ) → Sent first (W.writes.taken writer.old) frame_writer.old.output all → WroteFront first (W.writes.taken writer.new) frame_writer.new.output.written (all ++ last.now)) }
+    ensures wrote { OnOk result
+        (SendsAll (W.writes.taken writer.old) (W.writes.taken writer.new) frame_writer.old.output frame_writer.new.output last.now) }
+    ensures front { OnErr result
+        (SendsFront (W.writes.taken writer.old) (W.writes.taken writer.new) frame_writer.old.output frame_writer.new.output last.now) }
     ensures flushed { OnOk result (W.writes.flushed writer.new ≡ true) }
     ensures clips { frame_writer.new.clips ≡ frame_writer.old.clips }
     ensures failures { CountsFailure (W.writes.failures writer.old) (W.writes.failures writer.new) result }
@@ -100,9 +97,7 @@ fn close<W: ByteOut>(
 
 // The head of what is written, where its length is not known beforehand.
 fn streamed_head(target: Target) -> HeadBytes
-    requires coded { IsTrue (is_coding_of target.kind target.coding) }
-    requires rated { 1 ≤ target.rate }
-    requires channels { (1 ≤ target.channels) × (target.channels ≤ 16) }
+    requires { HasHead target }
     ensures { result ≡ written_head target.kind target.rate target.channels target.coding None }
 {
     head_bytes(
@@ -125,50 +120,33 @@ pub fn run_flow<R: ReadBeside, S: PassesEarly, W: ByteOut>(
     source: &mut Source<R>,
     writer: &mut W,
 ) -> Result<Report, RunFault>
-    requires coded { IsTrue (is_coding_of target.kind target.coding) }
-    requires rated { 1 ≤ target.rate }
-    requires channels { (1 ≤ target.channels) × (target.channels ≤ 16) }
-    requires hungry { IsHungry S.acts flow.old }
-    requires new { (taken_of flow.old ≡ 0) × (given_by S.acts flow.old.left flow.old.stages ≡ 0) }
-    requires width { flow.old.channels ≡ head.now.channels }
+    requires target { HasHead target }
+    requires flow { BeginsFlow S.acts flow.old head.now.channels }
     requires count { length flow.old.stages ≤ MAX_EFFECTS }
     requires fits { max_of (kinds S.acts flow.old.stages) max_frames ≤ 2 ^ 56 }
 
     // Without a fault all that the flow gives for the sound was written.
-    ensures completed { IfOk result (λ r. IfKnown (to_come R.reads.rest source.old) (λ bytes.
-        Completed S.acts flow.old flow.new target (start_of head.now) bytes (sound_frames (start_of head.now) r.frames_in bytes) (W.writes.taken writer.old) (W.writes.taken writer.new) r)) }
-    ensures flushed { OnOk result (W.writes.flushed writer.new ≡ true) }
-    ensures done { OnOk result (IsDone S.acts flow.new) }
+    ensures completed { IfOk result (RanWhole S.acts R.reads W.writes flow.old flow.new (start_of head.now)
+        source.old source.new writer.old writer.new target) }
 
     // After a fault the frames then due were written, or a prefix of them.
-    ensures stopped { IfErr result (λ f. IfKnown (to_come R.reads.rest source.old) (λ bytes.
-        StoppedAt S.acts flow.old flow.new target (start_of head.now) bytes (sound_frames (start_of head.now) (report_at f).frames_in bytes) (W.writes.taken writer.old) (W.writes.taken writer.new) f)) }
-    ensures due_flushed { IfErr result (λ f. cause_of f ≢ Cause.WriteFailed → W.writes.flushed writer.new ≡ true) }
-    ensures read_failed { IfErr result (λ f. cause_of f ≡ Cause.ReadFailed → ReadAllDelivered R.reads.delivered source.old source.new.reader (start_of head.now) (report_at f).frames_in) }
+    ensures stopped { IfErr result (RanPart S.acts R.reads W.writes flow.old flow.new (start_of head.now)
+        source.old source.new writer.old writer.new target) }
 
     // The position of the source.
-    ensures stands { IfKnown (to_come R.reads.rest source.old) (λ bytes. Stands result
-        (to_come R.reads.rest source.new ≡ Some (after_reported (start_of head.now) (report_in result) bytes))
-        (HoldsWhatCame R.reads.delivered source.old source.new bytes ((report_in result).frames_in * size_of (start_of head.now)))
-        ((R.reads.failures source.new.reader ≡ saturated (R.reads.failures source.old.reader + 1)) × ReadBefore S.acts R.reads.delivered source.old source.new.reader flow.old flow.new (start_of head.now) (report_in result).frames_in (report_in result).frames_out)) }
+    ensures stands { SourceAt S.acts R.reads W.writes flow.old flow.new (start_of head.now)
+        source.old source.new writer.old writer.new result }
 
     // Before each read that may have had to wait, the writer had exactly the head and the frames then due.
-    ensures waited { IfKnown (to_come R.reads.rest source.old) (λ bytes. WaitedUntil R.asked
-        (due_bytes S.acts flow.old target.coding (head_for target) (start_of head.now) bytes) (W.writes.taken writer.old) source.old source.new.reader) }
+    ensures waited { WaitedForDue S.acts R.reads R.asked flow.old target.coding (head_for target) (start_of head.now)
+        (W.writes.taken writer.old) source.old source.new.reader }
 
     // The counts.
-    ensures wants { WantsMore (kinds S.acts flow.old.stages) (report_in result).frames_in }
-    ensures taken { (report_in result).frames_in ≡ taken_of flow.new }
-    ensures moves { (report_in result).moves ≡ moves_of S.acts flow.new }
-    ensures work { (report_in result).moves ≤ work (kinds S.acts flow.old.stages) (report_in result).frames_in }
-    ensures clips { (report_in result).clips ≡ clips_now S.acts flow.new.stages }
-    ensures recipes { recipes S.acts flow.new.stages ≡ recipes S.acts flow.old.stages }
-    ensures width { flow.new.channels ≡ flow.old.channels }
+    ensures counts { CountsFlow S.acts (work (kinds S.acts flow.old.stages)) flow.old flow.new (report_in result) }
 
     // A fault is returned only where its cause was counted.
-    ensures causes { MatchResult result
-        (λ _. (R.reads.failures source.new.reader ≡ R.reads.failures source.old.reader) × (W.writes.failures writer.new ≡ W.writes.failures writer.old))
-        (λ f. HasCause (cause_of f) (ReadBefore S.acts R.reads.delivered source.old source.new.reader flow.old flow.new (start_of head.now) (report_at f).frames_in (report_at f).frames_out) (R.reads.failures source.old.reader) (R.reads.failures source.new.reader) (W.writes.failures writer.old) (W.writes.failures writer.new)) }
+    ensures causes { CountsCauses S.acts R.reads W.writes flow.old flow.new (start_of head.now)
+        source.old source.new writer.old writer.new result }
 {
     let mut progress = Progress::new(head);
     let mut frame_writer = FrameWriter {

@@ -23,8 +23,10 @@ impl FrameWriter {
     pub fn send<W: ByteOut>(&mut self, writer: &mut W, frame: &Frame) -> Result<(), Failed>
         requires free { bytes_put self.old.output + 64 < 2 ^ 64 }
         requires bound { self.old.clips < 2 ^ 62 }
-        ensures sent { OnOk result (SendsMore (W.writes.taken writer.old) (W.writes.taken writer.new) self.old.output self.new.output (bytes_of self.old.coding frame.now)) }
-        ensures sent_err { OnErr result (SendsPart (W.writes.taken writer.old) (W.writes.taken writer.new) self.old.output self.new.output (bytes_of self.old.coding frame.now)) }
+        ensures sent { OnOk result (SendsMore (W.writes.taken writer.old) (W.writes.taken writer.new)
+            self.old.output self.new.output (bytes_of self.old.coding frame.now)) }
+        ensures sent_err { OnErr result (SendsPart (W.writes.taken writer.old) (W.writes.taken writer.new)
+            self.old.output self.new.output (bytes_of self.old.coding frame.now)) }
         ensures small { OnOk result (bytes_put self.new.output ≤ bytes_put self.old.output + 64) }
         ensures clips { self.new.clips ≡ self.old.clips + clips_of self.old.coding frame.now }
         ensures bound { self.new.clips ≤ self.old.clips + 16 }

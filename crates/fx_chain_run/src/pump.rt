@@ -2,7 +2,7 @@
 ghost use Rattle.std.specs.Prelude.{◌≡◌, ◌+◌, ◌*◌, ◌≤◌, ◌^◌, true, OnErr, OnOk, length};
 ghost use Rattle.fx_chain_run.specs.NextFrame.{CountsCause};
 ghost use Rattle.fx_chain_run.specs.Pumping.{BeginsFlow, BeginsSound, FlowAfter, RunSent, RunTook, SourceAfter, WaitedForDue};
-ghost use Rattle.fx_chain_run.specs.Through.{RunCutOff, Drained};
+ghost use Rattle.fx_chain_run.specs.Through.{CutOffInto, DrainsInto};
 ghost use Rattle.fx_chain_flow.specs.Parts.{given_by, max_of};
 ghost use Rattle.fx_chain_flow.specs.Sound.{max_frames};
 ghost use Rattle.fx_chain_flow.specs.Steps.{IsDone, IsHungry};
@@ -55,8 +55,10 @@ fn end_flow<S: PassesEarly, W: ByteOut>(
     requires fits { max_of (kinds S.acts flow.old.stages) max_frames ≤ 2 ^ 56 }
     requires free { bytes_put frame_writer.old.output ≤ 68 + 64 * given_by S.acts flow.old.left flow.old.stages }
     requires bound { frame_writer.old.clips ≤ 16 * given_by S.acts flow.old.left flow.old.stages }
-    ensures drained { OnOk result (Drained S.acts (record flow.old { ended = true }) flow.new frame_writer.old.coding frame_writer.old.clips frame_writer.new.clips (W.writes.taken writer.old) (W.writes.taken writer.new) frame_writer.old.output frame_writer.new.output) }
-    ensures cut_off { OnErr result (RunCutOff S.acts (record flow.old { ended = true }) flow.new frame_writer.old.coding frame_writer.old.clips frame_writer.new.clips (W.writes.taken writer.old) (W.writes.taken writer.new) frame_writer.old.output frame_writer.new.output) }
+    ensures drained { OnOk result (DrainsInto S.acts (record flow.old { ended = true }) flow.new frame_writer.old frame_writer.new
+        (W.writes.taken writer.old) (W.writes.taken writer.new)) }
+    ensures cut_off { OnErr result (CutOffInto S.acts (record flow.old { ended = true }) flow.new frame_writer.old frame_writer.new
+        (W.writes.taken writer.old) (W.writes.taken writer.new)) }
     ensures done { OnOk result (IsDone S.acts flow.new) }
     ensures free { OnOk result (bytes_put frame_writer.new.output ≤ 2 ^ 63) }
     ensures failures { CountsFailure (W.writes.failures writer.old) (W.writes.failures writer.new) result }
