@@ -1,4 +1,4 @@
-use Rattle.std.proofs.Common.{to_z, of_z, w64, arith, refl, ◌≡◌, ◌∙◌, ◌<◌, ◌≤◌, ◌*◌, ◌^◌, ℕ, ℤ, pos, List, length, get_or, drop, unsigned_abs}
+use Rattle.std.proofs.Common.{to_z, of_z, w64, arith, refl, ◌≡◌, ◌∙◌, ◌<◌, ◌*◌, ◌^◌, ℕ, ℤ, pos, List, length, get_or, drop, unsigned_abs}
 use Rattle.fx_tap_sums.specs.declared.transforms.remainders.TheConstants.{FIRST}
 use Rattle.fx_tap_sums.specs.Joined.{HasThree}
 use Rattle.fx_tap_sums.specs.Prepared.{ArePrepared, max_sums}
