@@ -71,12 +71,12 @@ module _ {S C X W : Type 0} (acts : Acts S C) (device : ByteReader X) (writer : 
       (to_come device.rest s' ≡ Some (after_reported sound (report_in result) bytes))
       (HoldsWhatCame device.delivered s s' bytes ((report_in result).frames_in * size_of sound))
       ((device.failures s'.reader ≡ saturated (device.failures s.reader + 1))
-          × ReadBefore acts device.delivered s s'.reader f f' sound (report_in result).frames_in (report_in result).frames_out))
+      × ReadBefore acts device.delivered s s'.reader f f' sound (report_in result).frames_in (report_in result).frames_out))
 
   -- A fault is returned only where its cause was counted.
   abbrev pub CountsCauses : Result Report RunFault → Type 0
   CountsCauses result = MatchResult result
       (λ _. (device.failures s'.reader ≡ device.failures s.reader) × (writer.failures w' ≡ writer.failures w))
       (λ fault. HasCause (cause_of fault)
-          (ReadBefore acts device.delivered s s'.reader f f' sound (report_at fault).frames_in (report_at fault).frames_out)
-          (device.failures s.reader) (device.failures s'.reader) (writer.failures w) (writer.failures w'))
+      (ReadBefore acts device.delivered s s'.reader f f' sound (report_at fault).frames_in (report_at fault).frames_out)
+      (device.failures s.reader) (device.failures s'.reader) (writer.failures w) (writer.failures w'))
