@@ -26,13 +26,13 @@ pub record HasHead (target : Target) : Type 0 where
   -- it has 1 to 16 channels
   pub channels : (1 ≤ target.channels) × (target.channels ≤ 16)
 
--- The counts that a run reports, against its flow, which is called at most `bound n` times for n frames.
+-- The counts that a run reports are those of its flow, which makes at most `bound n` hand-overs for n frames.
 pub record CountsFlow {S C : Type 0} (acts : Acts S C) (bound : ℕ → ℕ) (f f' : Parts S) (r : Report) : Type 0 where
   -- fewer frames were not enough for any stage
   pub wants : WantsMore (kinds acts f.stages) r.frames_in
   -- the frames that it took
   pub taken : r.frames_in ≡ taken_of f'
-  -- its calls
+  -- its hand-overs
   pub moves : r.moves ≡ moves_of acts f'
   -- no more than the bound
   pub work : r.moves ≤ bound r.frames_in

@@ -1,9 +1,9 @@
 //! The next frame of a sound whose bytes may come slowly.
-ghost use Rattle.std.specs.Prelude.{◌≡◌, ◌≢◌, ◌+◌, ◌<◌, ◌≤◌, [], false, true, Err, IfNone, IfOk, IfSome, MatchBool, OnErr, OnOk, length};
+ghost use Rattle.std.specs.Prelude.{◌≡◌, ◌≢◌, ◌+◌, ◌<◌, ◌≤◌, [], false, true, Err, IfNone, IfOk, IfSome, OnErr, OnOk, length};
 ghost use Rattle.fx_sound.specs.NextFrame.{CutShort, FollowsMaximum, MetEnd, TookFrame};
 ghost use Rattle.fx_chain_run.specs.NextFrame.{AsksNext, CountsCause, PassesPending, TookNone};
-ghost use Rattle.fx_chain_run.specs.Run.{run_read_failed, is_write_failed};
-ghost use Rattle.fx_frame_base.specs.Io.{CountsFailure, saturated};
+ghost use Rattle.fx_chain_run.specs.Run.{run_read_failed};
+ghost use Rattle.fx_frame_base.specs.Io.{CountsFailure};
 ghost use Rattle.fx_sound.specs.Known.{IfKnown};
 ghost use Rattle.fx_sound.specs.Source.{AsksBeside, HoldsAll, HoldsFront, Stays, Takes, to_come};
 ghost use Rattle.fx_chain_run.specs.Waiting.{AsksOn};
@@ -72,12 +72,7 @@ fn fetch<R: ReadBeside, W: ByteOut>(
     ensures sent { SendsOn (W.writes.taken writer.old) (W.writes.taken writer.new) output.old output.new }
     ensures count { bytes_put output.new ≡ bytes_put output.old }
     ensures cause { result ≢ Err Cause.TooLong }
-    ensures reads { MatchBool (run_read_failed result)
-        (R.reads.failures source.new.reader ≡ saturated (R.reads.failures source.old.reader + 1))
-        (R.reads.failures source.new.reader ≡ R.reads.failures source.old.reader) }
-    ensures writes { MatchBool (is_write_failed result)
-        (W.writes.failures writer.new ≡ saturated (W.writes.failures writer.old + 1))
-        (W.writes.failures writer.new ≡ W.writes.failures writer.old) }
+    ensures faults { CountsCause R.reads W.writes result source.old.reader source.new.reader writer.old writer.new }
 {
     while source.held() < want {
         let Ok(()) = let_out(source, output, writer) else {

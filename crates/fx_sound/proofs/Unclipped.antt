@@ -1,12 +1,12 @@
 -- Samples that are not clipped on writing.
-use Rattle.std.proofs.Common.{◌≡◌, ℕ, ◌+◌, ◌-◌, ◌*◌, ◌/◌, ◌<◌, ◌≤◌, false, refl, arith, ℤ, pos, negsuc, ◌+ℤ◌, ◌≤ℤ◌}
+use Rattle.std.proofs.Common.{◌≡◌, ◌/◌, ◌≤◌, false, refl, arith, ℤ, pos, negsuc, ◌+ℤ◌, ◌≤ℤ◌}
 use Rattle.std.specs.Int.{int_div_euclid}
-use Rattle.std.specs.Prelude.{int_lt, nat_lt}
+use Rattle.std.specs.Prelude.{int_lt}
 use Rattle.std.proofs.lemmas.Bool.Decides.{nat_tests}
 use Rattle.std.proofs.lemmas.Int.{ints}
 use Rattle.fx_frame_base.specs.declared.coding.Coding.{Coding}
 use Rattle.fx_frame_base.specs.declared.coding.Coding.TheVariants.{U8, S8, S16Le, S16Be, S24Le, S24Be, S32Le, S32Be}
-use Rattle.fx_frame_base.specs.Coding.{clips_written, is_too_large, largest_sample}
+use Rattle.fx_frame_base.specs.Coding.{clips_written}
 use Rattle.fx_sound.specs.FrameCoding.{largest_unclipped}
 
 not_more-128 : (a : ℤ) → a ≤ℤ pos 2147483647 → int_lt (pos 127) (int_div_euclid a (pos 16777216)) ≡ false

@@ -1,6 +1,6 @@
 use Rattle.std.proofs.Common.{rules, ◌≡◌, ◌<◌, ◌≤ℤ◌, length, get_or, ap, ◌∙◌, sym, arith, pos, w32, to_z, of_z}
 use Rattle.std.proofs.lemmas.Int.{ints}
-use Rattle.fx_frame_base.specs.Coding.{written_sample, clips_written}
+use Rattle.fx_frame_base.specs.Coding.{written_sample}
 use Rattle.fx_frame_base.specs.Frame.{Samples}
 use Rattle.fx_sound.specs.FrameCoding.{largest_unclipped}
 use Rattle.fx_sound.proofs.FrameBytes.{bytes_of-turn, clips_of-no}
