@@ -7,7 +7,7 @@ ghost use Rattle.fx_chain_flow.specs.StageCall.{At, ChangedAt, EndedWithin, Gave
 ghost use Rattle.fx_frame_base.specs.Feed.{PassedOn};
 ghost use Rattle.fx_frame_base.specs.Holds.{kinds};
 ghost use Rattle.fx_frame_base.specs.Lists.{pieces};
-ghost use Rattle.fx_frame_base.specs.Pipeline.{AreReady, PipelineThrough, outputs_of};
+ghost use Rattle.fx_frame_base.specs.Pipeline.{AreReadyFor, PipelineThrough, outputs_of};
 ghost use Rattle.fx_frame_base.specs.Stage.{IsDry, kind, spent};
 
 use fx_frame_base::feed::take_many;
@@ -89,10 +89,9 @@ pub trait StageCalls: PassesEarly + PassesWhile {
         output: &mut [i32],
     ) -> usize
         requires frame { (1 ≤ channels) × (channels ≤ 16) }
-        requires ready { (taken maximum : ℕ) × (taken + count ≤ maximum) × AreReady Self.acts channels taken maximum stages.old }
+        requires ready { AreReadyFor Self.acts channels count stages.old }
         requires outputs { outputs ≡ outputs_of channels (kinds Self.acts stages.old) }
-        requires input { count * channels ≤ length input.now }
-        requires free { count * outputs ≤ length output.old }
+        requires blocks { (count * channels ≤ length input.now) × (count * outputs ≤ length output.old) }
         ensures bound { result ≤ count }
         ensures frame { 1 ≤ result → 1 ≤ outputs }
         ensures samples { All (FitsSigned w32) (take (result * channels) input.now) }

@@ -29,8 +29,7 @@ pub trait PassesWhile: Feeds {
 
     /// As `pass_frames`, while the line of a stage before this one holds what it holds now.
     fn pass_while<L: HoldsFrames>(&mut self, line: &L, count: usize, samples: &mut [i32])
-        requires dry { Self.acts.dry self.old ≡ true }
-        requires not_ended { (Self.acts.counts self.old).ended ≡ false }
+        requires waits { (Self.acts.dry self.old ≡ true) × ((Self.acts.counts self.old).ended ≡ false) }
         requires one_to_one { IsOneToOne Self.acts count self.old }
         requires ahead { IsAhead Self.acts count self.old }
         requires frame { (1 ≤ (kind Self.acts self.old).inputs) × ((kind Self.acts self.old).inputs ≤ 16) }

@@ -88,8 +88,7 @@ impl ByteOut for Sink {
         ensures refused { RefusesNext self.old.device → IsErr result }
         ensures full { self.old.capacity ≤ length self.old.bytes → 0 < length bytes.now → IsErr result }
         ensures cause { OnErr result (RefusesNext self.old.device ⊎ (self.old.capacity ≤ length self.old.bytes) × (0 < length bytes.now)) }
-        ensures counted { self.new.device ≡ device_after self.old.device result }
-        ensures capacity { self.new.capacity ≡ self.old.capacity }
+        ensures counted { (self.new.device ≡ device_after self.old.device result) × (self.new.capacity ≡ self.old.capacity) }
     {
         self.device.call()?;
         let left = self.capacity - self.bytes.len();

@@ -67,8 +67,7 @@ impl ByteIn for Tape {
         ensures piece { IfOk result (λ n. n ≡ min (min (length buffer.new) self.old.device.piece) (length self.old.bytes)) }
         ensures refused { IsErr result ↔ RefusesNext self.old.device }
         ensures counted { self.new.device ≡ device_after self.old.device result }
-        ensures err { OnErr result (self.new.bytes ≡ self.old.bytes) }
-        ensures unwritten { OnErr result (buffer.new ≡ buffer.old) }
+        ensures err { OnErr result ((self.new.bytes ≡ self.old.bytes) × (buffer.new ≡ buffer.old)) }
         ensures rest_unchanged { IfOk result (λ n. drop n buffer.new ≡ drop n buffer.old) }
     {
         self.device.call()?;
