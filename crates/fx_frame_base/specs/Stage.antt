@@ -131,14 +131,10 @@ module _ {S R : Type 0} (acts : Acts S R) where
     pub stored : frames ≡ acts.stored s
     pub counted : numbers ≡ numbers_of s
 
-  -- each sound stage that was made so, and has these frames and numbers, is restored, unless memory is refused
-  abbrev pub RestoresMade : (S → Type 0) → (S → Type 0) → List Samples → List ℕ → Result S ThawFault → Type 0
-  RestoresMade IsSound IsMade frames numbers result =
-      (s : S) → IsSound s → IsMade s → Freezes s frames numbers → MatchResult result (λ t. t ≡ s) (λ e. e ≡ Memory)
-
-  -- the same of a stage with these arguments
+  -- each sound stage with these arguments that has these frames and numbers is restored, unless memory is refused
   abbrev pub Restores : (S → Type 0) → R → List Samples → List ℕ → Result S ThawFault → Type 0
-  Restores IsSound arguments = RestoresMade IsSound (λ s. acts.recipe s ≡ arguments)
+  Restores IsSound arguments frames numbers result =
+      (s : S) → IsSound s → acts.recipe s ≡ arguments → Freezes s frames numbers → MatchResult result (λ t. t ≡ s) (λ e. e ≡ Memory)
 
   -- the same where no memory is taken
   abbrev pub RestoresAlways : (S → Type 0) → R → List Samples → List ℕ → Result S ThawFault → Type 0

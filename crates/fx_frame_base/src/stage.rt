@@ -1,6 +1,6 @@
-ghost use Rattle.std.specs.Prelude.{◌≡◌, ◌<◌, ◌≤◌, ℕ, true, false, List, [], length, slice_index_or, MatchOption, IfOk, Err};
+ghost use Rattle.std.specs.Prelude.{◌≡◌, ◌<◌, ◌≤◌, ℕ, true, false, List, [], length, slice_index_or, MatchOption, MatchResult, IfOk, Err};
 ghost use Rattle.fx_frame_base.specs.Frame.{Samples};
-ghost use Rattle.fx_frame_base.specs.Stage.{Acts, Freezes, Gave, Took, Ended, IsDry, IsLined, IsWet, IsWithin, RestoresMade, hold_of, kind, numbers_of, state_counters_of, spent};
+ghost use Rattle.fx_frame_base.specs.Stage.{Acts, Freezes, Gave, Took, Ended, IsDry, IsLined, IsWet, IsWithin, hold_of, kind, numbers_of, state_counters_of, spent};
 
 use crate::frame::Frame;
 use crate::wide::WideFrame;
@@ -194,7 +194,8 @@ pub trait Thaws: Stage {
         ensures made { IfOk result (λ t. made arguments.now t) }
         ensures named { (result ≡ Err ThawFault.WrongPlan) → ⊥ }
         ensures frozen { IfOk result (λ t. Freezes Self.acts t frames.now numbers.now) }
-        ensures thawed { RestoresMade Self.acts Self.sound (made arguments.now) frames.now numbers.now result };
+        ensures thawed { (s : Self) → Self.sound s → made arguments.now s → Freezes Self.acts s frames.now numbers.now
+            → MatchResult result (λ t. t ≡ s) (λ e. e ≡ ThawFault.Memory) };
 
     /// What a stage was made with is unchanged where its recipe is.
     ghost made_stays: { (a : Self.Arguments) (s t : Self) → Self.acts.recipe t ≡ Self.acts.recipe s → made a s → made a t };
