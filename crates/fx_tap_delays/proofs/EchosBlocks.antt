@@ -130,23 +130,22 @@ module _ (s : EchosState) (lines : List (Frames ℤ)) (is : IsEchos s) (none : s
 
   module _ (n clips : ℕ) (input output : List ℤ) (out_is : pieces s.arguments.channels n output ≡ map (λ (g : Given). g.samples) (through_lines s.arguments s.lines (pieces s.arguments.channels n input)))
       (counted : clips ≡ total (λ (g : Given). g.clips) (through_lines s.arguments s.lines (pieces s.arguments.channels n input))) (went : lines ≡ series_lines_after s.arguments.channels s.lines (pieces s.arguments.channels n input)) where
+    block-of : (P : List Samples → EchosState → EchosState → Type 0)
+        → P (map (λ (g : Given). g.samples) (through_lines s.arguments s.lines (pieces s.arguments.channels n input))) (ready s.arguments s.lines s.taken s.clips) (ready s.arguments (series_lines_after s.arguments.channels s.lines (pieces s.arguments.channels n input)) (s.taken + length (pieces s.arguments.channels n input)) (s.clips + total (λ (g : Given). g.clips) (through_lines s.arguments s.lines (pieces s.arguments.channels n input))))
+        → P (pieces s.arguments.channels n output) s (passed_echos s lines n clips)
+    block-of P p =
+        let gs : List Given = through_lines s.arguments s.lines (pieces s.arguments.channels n input) in
+        rw (out_is, counted, went)
+        (subst (λ (u : EchosState). P (map (λ (g : Given). g.samples) gs) u (passed_echos u (series_lines_after s.arguments.channels s.lines (pieces s.arguments.channels n input)) n (total (λ (g : Given). g.clips) gs))) (ready-is s is none running)
+        (rw (length-pieces s.arguments.channels n input) at p))
+
     -- a block of frames: the counters are added to once
     pub block-fed : Fed echos_acts s (pieces s.arguments.channels n input) (pieces s.arguments.channels n output) (passed_echos s lines n clips)
-    block-fed =
-        let xs : List Samples = pieces s.arguments.channels n input in
-        let gs : List Given = through_lines s.arguments s.lines xs in
-        rw (out_is, counted, went)
-        (subst (λ (u : EchosState). Fed echos_acts u xs (map (λ (g : Given). g.samples) gs) (passed_echos u (series_lines_after s.arguments.channels s.lines xs) n (total (λ (g : Given). g.clips) gs))) (ready-is s is none running)
-        (rw (length-pieces s.arguments.channels n input) at (lines-fed s.arguments xs s.lines s.taken s.clips (places-late s is))))
+    block-fed = block-of (λ ys u v. Fed echos_acts u (pieces s.arguments.channels n input) ys v) (lines-fed s.arguments (pieces s.arguments.channels n input) s.lines s.taken s.clips (places-late s is))
 
     -- the same, each frame given before the next is taken
     pub block-through : EachThrough echos_acts (pieces s.arguments.channels n input) (pieces s.arguments.channels n output) s (passed_echos s lines n clips)
-    block-through =
-        let xs : List Samples = pieces s.arguments.channels n input in
-        let gs : List Given = through_lines s.arguments s.lines xs in
-        rw (out_is, counted, went)
-        (subst (λ (u : EchosState). EachThrough echos_acts xs (map (λ (g : Given). g.samples) gs) u (passed_echos u (series_lines_after s.arguments.channels s.lines xs) n (total (λ (g : Given). g.clips) gs))) (ready-is s is none running)
-        (rw (length-pieces s.arguments.channels n input) at (lines-through s.arguments xs s.lines s.taken s.clips (places-late s is))))
+    block-through = block-of (λ ys u v. EachThrough echos_acts (pieces s.arguments.channels n input) ys u v) (lines-through s.arguments (pieces s.arguments.channels n input) s.lines s.taken s.clips (places-late s is))
 
 -- the state after it
 pub IsEchos-block : (s : EchosState) (lines : List (Frames ℤ)) (n clips : ℕ) → IsEchos s → s.pending ≡ None → s.ended ≡ false → s.taken + n ≤ 2 ^ 56 → length lines ≡ length s.lines

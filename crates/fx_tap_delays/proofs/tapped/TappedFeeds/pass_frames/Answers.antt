@@ -5,19 +5,10 @@ use Rattle.fx_frame.proofs.DryLaws.{dry-pending}
 use Rattle.fx_frame.proofs.TapBlocks.{IsTapState-block, block-through}
 use Rattle.fx_tap_delays.proofs.tapped.TappedFeeds.pass_frames.Goals as goal
 
-pub tap_groups-clips-requires-clause-channels : goal.tap_groups-clips-requires-clause-channels
-tap_groups-clips-requires-clause-channels g c = c.self.invariant.channels
-
-pub tap_groups-clips-requires-clause-capacity : goal.tap_groups-clips-requires-clause-capacity
-tap_groups-clips-requires-clause-capacity g c = c.self.invariant.capacity
-
-pub tap_groups-clips-requires-clause-bound : goal.tap_groups-clips-requires-clause-bound
-tap_groups-clips-requires-clause-bound g c =
+pub tap_groups-clips-requires : goal.tap_groups-clips-requires
+tap_groups-clips-requires g c =
     let limit = rw (← c.self.view_is) at c.requires.below_limit in
-    omega (arith, limit)
-
-pub tap_groups-clips-requires-clause-samples : goal.tap_groups-clips-requires-clause-samples
-tap_groups-clips-requires-clause-samples g c = rw (← c.self.view_is) at c.requires.samples
+    record { channels = c.self.invariant.channels; capacity = c.self.invariant.capacity; bound = omega (arith, limit); samples = rw (← c.self.view_is) at c.requires.samples }
 
 pub overflow_add-self : goal.overflow_add-self
 overflow_add-self g c =
