@@ -7,6 +7,7 @@ use Rattle.fx_frame_base.specs.Lists.{pieces}
 use Rattle.fx_frame_base.proofs.Puts.{drop-put, pieces-put, pieces-split, pieces-take}
 use Rattle.fx_frame_line.specs.Line.{Frames, pushed_all}
 use Rattle.fx_frame_line.proofs.ManyFrames.{pieces-put_many}
+use Rattle.fx_tap_delays.specs.Tapping.{CountsClips}
 use Rattle.fx_frame.specs.Tapped.{IsNear, MakesBlock, Taps, clips_after, clips_in_block, frames_after, last_of}
 use Rattle.fx_frame.proofs.TapBlocks.{clips-joined, frames-joined, last-joined}
 
@@ -47,22 +48,40 @@ module _ (ch done n count : ℕ) (within : done + n ≤ count) where
     pub group-rest : (start : List ℤ) → drop (done * ch) out ≡ drop (done * ch) start → drop ((done + n) * ch) (put_at (done * ch) (n * ch) made out) ≡ drop ((done + n) * ch) start
     group-rest start e = rw (add-mul done n ch) (drop-put (done * ch) (n * ch) start out made _ group-long (group-end ch done n count (length out) within free) (put-is (done * ch) (n * ch) made out group-long) e)
 
--- frames more, of an effect that depends on those before them: `next` of them where there were `done`
-module _ {M : Type 0} (taps : Taps M) (near : IsNear taps) (m : M) (start line : Frames ℤ) (done next : ℕ) (input : List ℤ) (ys : List Samples) (held : length start.items ≤ start.capacity) (reach : taps.reach m ≤ start.capacity)
-    (more : pieces (taps.channels m) next input ≡ pieces (taps.channels m) done input ++ ys) (items : line.items ≡ pushed_all start (pieces (taps.channels m) done input)) where
-  pub block-made : (out new : List ℤ) (zs : List Samples) → MakesBlock taps m start.items done input out → pieces (taps.channels m) next new ≡ pieces (taps.channels m) done out ++ zs → zs ≡ frames_after taps m line.items ys → MakesBlock taps m start.items next input new
-  block-made out new zs old put made =
-      let xs : List Samples = pieces (taps.channels m) done input in
-      put ∙ ap (λ ps. ps ++ zs) old ∙ ap (λ ps. frames_after taps m start.items xs ++ ps) (made ∙ ap (λ l. frames_after taps m l ys) items)
-      ∙ sym (ap (frames_after taps m start.items) more ∙ frames-joined taps near m start.capacity xs ys start.items held reach)
+-- what a loop made of the first `done` frames of the input, after those of the line `start`: the output was `first`
+pub record MadeFrames {M : Type 0} (taps : Taps M) (m : M) (start : Frames ℤ) (done : ℕ) (input first out : List ℤ) (now : Frames ℤ) : Type 0 where
+  pub made : MakesBlock taps m start.items done input out
+  pub rest_unchanged : drop (done * taps.channels m) out ≡ drop (done * taps.channels m) first
+  pub line : now.items ≡ pushed_all start (pieces (taps.channels m) done input)
+  pub line_capacity : now.capacity ≡ start.capacity
+  pub line_channels : now.channels ≡ start.channels
 
-  pub block-counted : (clips added : ℕ) → clips ≡ clips_in_block taps m start.items done input → added ≡ clips_after taps m line.items ys → clips + added ≡ clips_in_block taps m start.items next input
-  block-counted clips added old counted =
+-- frames more, of an effect that depends on those before them: `next` of them where there were `done`
+module _ {M : Type 0} (taps : Taps M) (near : IsNear taps) (m : M) (start line : Frames ℤ) (done next : ℕ) (input first out : List ℤ) (ys : List Samples) (held : length start.items ≤ start.capacity) (reach : taps.reach m ≤ start.capacity)
+    (more : pieces (taps.channels m) next input ≡ pieces (taps.channels m) done input ++ ys) (old : MadeFrames taps m start done input first out line) where
+  pub made-more : (new : List ℤ) (now : Frames ℤ) (zs : List Samples) → pieces (taps.channels m) next new ≡ pieces (taps.channels m) done out ++ zs → drop (next * taps.channels m) new ≡ drop (next * taps.channels m) first → zs ≡ frames_after taps m line.items ys
+      → now.items ≡ pushed_all line ys → now.capacity ≡ line.capacity → now.channels ≡ line.channels → MadeFrames taps m start next input first new now
+  made-more new now zs put rest made items capacity channels =
       let xs : List Samples = pieces (taps.channels m) done input in
-      ap (λ k. k + added) old ∙ ap (λ k. clips_after taps m start.items xs + k) (counted ∙ ap (λ l. clips_after taps m l ys) items)
+      record {
+        made =
+            put ∙ ap (λ ps. ps ++ zs) old.made ∙ ap (λ ps. frames_after taps m start.items xs ++ ps) (made ∙ ap (λ l. frames_after taps m l ys) old.line)
+            ∙ sym (ap (frames_after taps m start.items) more ∙ frames-joined taps near m start.capacity xs ys start.items held reach);
+        rest_unchanged = rest;
+        line = items ∙ ap (λ k. last_of k (line.items ++ ys)) old.line_capacity ∙ ap (λ l. last_of start.capacity (l ++ ys)) old.line ∙ last-joined start.capacity start.items xs ys ∙ sym (ap (λ ps. last_of start.capacity (start.items ++ ps)) more);
+        line_capacity = capacity ∙ old.line_capacity;
+        line_channels = channels ∙ old.line_channels;
+      }
+
+  pub counted-more : (clips added : ℕ) → clips ≡ clips_in_block taps m start.items done input → added ≡ clips_after taps m line.items ys → clips + added ≡ clips_in_block taps m start.items next input
+  counted-more clips added before counted =
+      let xs : List Samples = pieces (taps.channels m) done input in
+      ap (λ k. k + added) before ∙ ap (λ k. clips_after taps m start.items xs + k) (counted ∙ ap (λ l. clips_after taps m l ys) old.line)
       ∙ sym (ap (clips_after taps m start.items) more ∙ clips-joined taps near m start.capacity xs ys start.items held reach)
 
-  pub block-line : line.capacity ≡ start.capacity → pushed_all line ys ≡ pushed_all start (pieces (taps.channels m) next input)
-  block-line same =
-      ap (λ k. last_of k (line.items ++ ys)) same ∙ ap (λ l. last_of start.capacity (l ++ ys)) items ∙ last-joined start.capacity start.items (pieces (taps.channels m) done input) ys
-      ∙ sym (ap (λ ps. last_of start.capacity (start.items ++ ps)) more)
+  pub clips-more : (clips added n : ℕ) → next ≡ done + n → CountsClips taps m start.items done input clips → added ≡ clips_after taps m line.items ys → added ≤ n * taps.max_clips m → added ≤ 16 * n → CountsClips taps m start.items next input (clips + added)
+  clips-more clips added n e before counted bound small = record {
+    counted = counted-more clips added before.counted counted;
+    bound = omega (arith, before.bound, ap (λ k. k * taps.max_clips m) e, add-mul done n (taps.max_clips m));
+    small = omega (arith, before.small);
+  }

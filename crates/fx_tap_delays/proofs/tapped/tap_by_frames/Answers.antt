@@ -1,8 +1,8 @@
-use Rattle.std.proofs.Common.{rules, add-zero, ◌≡◌, ◌+◌, ◌-◌, ◌*◌, ◌≤◌, ℕ, List, [], ◌∷◌, length, take, drop, sym, ap, ◌∙◌, arith, add-one, suc, ℤ}
+use Rattle.std.proofs.Common.{rules, refl, add-zero, ◌≡◌, ◌+◌, ◌-◌, ◌*◌, ◌≤◌, ℕ, List, [], ◌∷◌, length, take, drop, sym, ap, ◌∙◌, arith, add-one, suc, ℤ}
 use Rattle.std.proofs.Math.Nat.{suc-mul, mul-le-mul_right}
 use Rattle.fx_frame_base.specs.Frame.{Samples}
 use Rattle.fx_frame_base.proofs.Puts.{pieces-more}
-use Rattle.fx_tap_delays.proofs.Groups.{block-counted, block-line, block-made, frame-put, frame-rest}
+use Rattle.fx_tap_delays.proofs.Groups.{clips-more, frame-put, frame-rest, made-more}
 use Rattle.fx_tap_delays.proofs.tapped.tap_by_frames.Goals as goal
 
 pub frames-preserved : goal.frames-preserved
@@ -27,19 +27,15 @@ frames-preserved g c =
     let next : suc turn * size ≤ c.args.count * size = mul-le-mul_right size (omega arith) in
     let fits : at + size ≤ length out = omega (arith, next, suc-mul turn size, old.at_is, c.requires.output, c.frames.auto.output) in
     let sides : length made ≡ size = search (rules, is_size, fits) in
+    let rest : drop at out ≡ drop at c.args.output.now = rw (← old.at_is) at old.made.rest_unchanged in
     let ensured = rw (is_size, width) at c.tap_into-clips.ensures in
     let pushes = rw (is_size, width) at c.push_samples.ensures.items in
     let more = pieces-more size turn at input old.at_is in
+    let one : (turn + 1) * size ≡ at + size = omega (arith, old.at_is, suc-mul turn size, add-one turn) in
     let bound16 : taps.max_clips m ≤ 16 = g.met.T.Tapping.clips_max m in
     rw (is_size, width)
     record {
-      at_is = omega (arith, old.at_is, suc-mul turn size, add-one turn);
-      done = block-made taps near m start line turn (turn + 1) input (x ∷ []) held long more old.line out _ (made ∷ []) old.done (frame-put size turn at out made old.at_is sides fits) (ap (λ y. y ∷ []) ensured.frame);
-      rest_unchanged = frame-rest size turn at out made old.at_is sides fits c.args.output.now old.rest_unchanged;
-      counted = block-counted taps near m start line turn (turn + 1) input (x ∷ []) held long more old.line c.frames.clips c.tap_into-clips.result old.counted (ensured.clips ∙ sym (add-zero _));
-      bound = omega (arith, old.bound, c.tap_into-clips.ensures.bound, suc-mul turn (taps.max_clips m), add-one turn);
-      small = omega (arith, old.small, c.tap_into-clips.ensures.bound, bound16);
-      line = pushes ∙ block-line taps near m start line turn (turn + 1) input (x ∷ []) held long more old.line old.line_capacity;
-      line_capacity = c.push_samples.ensures.capacity ∙ old.line_capacity;
-      line_channels = c.push_samples.ensures.channels ∙ old.line_channels;
+      at_is = sym one;
+      made = made-more taps near m start line turn (turn + 1) input c.args.output.now out (x ∷ []) held long more old.made _ _ (made ∷ []) (frame-put size turn at out made old.at_is sides fits) (rw one (frame-rest size turn at out made old.at_is sides fits c.args.output.now rest)) (ap (λ y. y ∷ []) ensured.frame) pushes c.push_samples.ensures.capacity c.push_samples.ensures.channels;
+      clips = clips-more taps near m start line turn (turn + 1) input c.args.output.now out (x ∷ []) held long more old.made c.frames.clips c.tap_into-clips.result 1 refl old.clips (ensured.clips ∙ sym (add-zero _)) (omega (arith, c.tap_into-clips.ensures.bound)) (omega (arith, c.tap_into-clips.ensures.bound, bound16));
     }

@@ -1,8 +1,7 @@
-use Rattle.std.proofs.Common.{◌≡◌, ◌+◌, ◌-◌, ◌*◌, ◌≤◌, ℕ, List, length, take, drop, ◌∙◌, arith, ℤ}
-use Rattle.std.proofs.Math.Nat.{add-mul}
+use Rattle.std.proofs.Common.{◌≡◌, ◌+◌, ◌-◌, ◌*◌, ◌≤◌, ℕ, List, length, take, drop, refl, arith, ℤ}
 use Rattle.fx_frame_base.specs.Frame.{Samples}
 use Rattle.fx_frame_base.specs.Lists.{pieces}
-use Rattle.fx_tap_delays.proofs.Groups.{block-counted, block-line, block-made, group-end, group-put, group-read, group-rest}
+use Rattle.fx_tap_delays.proofs.Groups.{clips-more, group-end, group-put, group-read, group-rest, made-more}
 use Rattle.fx_tap_delays.proofs.tapped.tap_groups.Goals as goal
 
 pub groups-preserved : goal.groups-preserved
@@ -27,19 +26,13 @@ groups-preserved g c =
     let long : taps.reach m ≤ start.capacity = let e = c.requires.capacity in omega arith in
     let ys : List Samples = pieces ch n (take (n * ch) (drop (done * ch) input)) in
     let more = group-read ch done n c.args.count within input (omega (arith, c.requires.samples)) in
-    let ensured = rw (is_ch, width, old.rest_unchanged) at c.tap_frames-clips.ensures in
+    let ensured = rw (is_ch, width, old.made.rest_unchanged) at c.tap_frames-clips.ensures in
     let kept = rw (is_ch, width) at c.tap_frames-clips.auto.samples in
     rw (is_ch, width)
     record {
       within = within;
-      made = block-made taps near m start line done (done + n) input ys held long more old.line out _ (pieces ch n made) old.made (group-put ch done n c.args.count within out made free kept) ensured.frames;
-      rest_unchanged = group-rest ch done n c.args.count within out made free kept input old.rest_unchanged;
-      counted = block-counted taps near m start line done (done + n) input ys held long more old.line c.groups.clips c.tap_frames-clips.result old.counted ensured.clips;
-      bound = omega (arith, old.bound, ensured.bound, add-mul done n (taps.max_clips m));
-      small = omega (arith, old.small, ensured.small);
-      line = ensured.line ∙ block-line taps near m start line done (done + n) input ys held long more old.line old.line_capacity;
-      line_capacity = c.tap_frames-clips.ensures.line_capacity ∙ old.line_capacity;
-      line_channels = c.tap_frames-clips.ensures.line_channels ∙ old.line_channels;
+      made = made-more taps near m start line done (done + n) input input out ys held long more old.made _ _ (pieces ch n made) (group-put ch done n c.args.count within out made free kept) (group-rest ch done n c.args.count within out made free kept input old.made.rest_unchanged) ensured.frames ensured.line c.tap_frames-clips.ensures.line_capacity c.tap_frames-clips.ensures.line_channels;
+      clips = clips-more taps near m start line done (done + n) input input out ys held long more old.made c.groups.clips c.tap_frames-clips.result n refl old.clips ensured.clips ensured.bound ensured.small;
     }
 
 pub slice_bounds-tap_frames-end : goal.slice_bounds-tap_frames-end

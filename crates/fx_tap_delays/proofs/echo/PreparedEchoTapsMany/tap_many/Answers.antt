@@ -8,7 +8,7 @@ use Rattle.fx_frame_line.specs.Line.{pushed_all}
 use Rattle.fx_tap_delays.specs.Echo.{EchoArguments}
 use Rattle.fx_tap_delays.specs.EchoState.{echo_taps}
 use Rattle.fx_tap_delays.specs.Near.{taps-near}
-use Rattle.fx_tap_delays.proofs.Groups.{block-counted, block-line, block-made, group-end, group-put, group-read, group-rest}
+use Rattle.fx_tap_delays.proofs.Groups.{counted-more, group-end, group-put, group-read, group-rest, made-more}
 use Rattle.fx_tap_delays.proofs.echo.PreparedEchoTapsMany.tap_many.Goals as goal
 
 pub slice_bounds-frames-end : goal.slice_bounds-frames-end
@@ -42,19 +42,15 @@ pieces-preserved c =
     let ensured = rw (← c.self.view_is, width) at c.tap_piece-clips.ensures in
     let kept = rw width at c.tap_piece-clips.auto.out in
     let pushes = rw width at c.push_frames.ensures.items in
-    let lined : line.channels ≡ ch = old.line_channels ∙ asked.channels in
+    let lined : line.channels ≡ ch = old.made.line_channels ∙ asked.channels in
     let held = c.len-held.ensures.line.within in
     let bound : n * ch ≤ n * 16 = mul-le-mul_left n c.self.invariant.0.bound in
     rw (← c.self.view_is, width)
     record {
       within = within;
-      made = block-made echo_taps taps-near a start line done (done + n) c.args.input.now (pieces ch n part) held long more old.line out _ (pieces ch n made) old.made (group-put ch done n c.args.count within out made free kept) ensured.frames;
-      rest_unchanged = group-rest ch done n c.args.count within out made free kept c.args.output.now old.rest_unchanged;
-      counted = block-counted echo_taps taps-near a start line done (done + n) c.args.input.now (pieces ch n part) held long more old.line c.pieces.clips c.tap_piece-clips.result old.counted ensured.clips;
+      made = made-more echo_taps taps-near a start line done (done + n) c.args.input.now c.args.output.now out (pieces ch n part) held long more old.made _ _ (pieces ch n made) (group-put ch done n c.args.count within out made free kept) (group-rest ch done n c.args.count within out made free kept c.args.output.now old.made.rest_unchanged) ensured.frames (pushes ∙ ap (λ k. pushed_all line (pieces k n part)) lined) c.push_frames.ensures.capacity c.push_frames.ensures.channels;
+      counted = counted-more echo_taps taps-near a start line done (done + n) c.args.input.now c.args.output.now out (pieces ch n part) held long more old.made c.pieces.clips c.tap_piece-clips.result old.counted ensured.clips;
       bound = omega (arith, old.bound, ensured.bound, bound);
-      line = pushes ∙ ap (λ k. pushed_all line (pieces k n part)) lined ∙ block-line echo_taps taps-near a start line done (done + n) c.args.input.now (pieces ch n part) held long more old.line old.line_capacity;
-      line_capacity = c.push_frames.ensures.capacity ∙ old.line_capacity;
-      line_channels = c.push_frames.ensures.channels ∙ old.line_channels;
     }
 
 pub tap_piece-clips-requires-clause-sounds : goal.tap_piece-clips-requires-clause-sounds

@@ -1,6 +1,6 @@
 use Rattle.std.proofs.Common.{◌≡◌, ◌+◌, ◌≤◌, ◌^◌, ◌∙◌, ap, false, length, arith, append-nil, None}
 use Rattle.fx_frame_base.specs.Lists.{pieces}
-use Rattle.fx_tap_delays.specs.EchosState.{EchosState, IsEchos}
+use Rattle.fx_tap_delays.specs.EchosState.{IsEchos}
 use Rattle.fx_frame.proofs.DryLaws.{dry-pending}
 use Rattle.fx_tap_delays.proofs.EchosBlocks.{IsEchos-block, block-through, passed_echos}
 use Rattle.fx_tap_delays.proofs.EchosGiven.{length-series_lines}
@@ -8,20 +8,6 @@ use Rattle.fx_tap_delays.proofs.EchosLaws.{frames-late}
 use Rattle.fx_frame_base.proofs.Puts.{written_back}
 use Rattle.fx_tap_delays.proofs.echos.EchosFeeds.pass_frames.Goals.{After-echo_frames-clips}
 use Rattle.fx_tap_delays.proofs.echos.EchosFeeds.pass_frames.Goals as goal
-
--- the stage that passes frames on, and the lines that come back
-abbrev stage : After-echo_frames-clips → EchosState
-stage c = record {
-  arguments = record { channels = c.self.inside.channels; gain_in = c.self.inside.gain_in; gain_out = c.self.inside.gain_out; taps = c.self.inside.taps.items };
-  lines = c.self.inside.lines.items;
-  pending = c.self.inside.pending;
-  pending_clips = c.self.inside.pending_clips;
-  tail = c.self.inside.tail;
-  taken = c.self.inside.taken;
-  given = c.self.inside.given;
-  clips = c.self.inside.clips;
-  ended = c.self.inside.ended;
-}
 
 none : (c : After-echo_frames-clips) → c.self.inside.pending ≡ None
 none c = dry-pending c.self.inside.pending c.self.inside.tail (rw (← c.self.view_is) at c.requires.dry)
@@ -35,11 +21,11 @@ limit c = rw (← c.self.view_is) at c.requires.below_limit
 many : (c : After-echo_frames-clips) → length c.echo_frames-clips.new.lines ≡ length c.self.inside.lines.items
 many c = ap length (rw c.deref_mut.ensures.value at c.echo_frames-clips.ensures.lines) ∙ length-series_lines c.self.inside.channels c.self.inside.lines.items (pieces c.self.inside.channels c.args.count c.args.samples.now)
 
-block : (c : After-echo_frames-clips) → IsEchos (passed_echos (stage c) c.echo_frames-clips.new.lines c.args.count c.echo_frames-clips.result)
+block : (c : After-echo_frames-clips) → IsEchos (passed_echos c.args.self.now c.echo_frames-clips.new.lines c.args.count c.echo_frames-clips.result)
 block c =
     let is = c.self.invariant.0 in
     let sound = rw (c.deref_mut.ensures.value, c.deref.ensures.value) at c.echo_frames-clips.ensures.sound in
-    IsEchos-block (stage c) c.echo_frames-clips.new.lines c.args.count c.echo_frames-clips.result is (none c) (running c) (limit c) (many c) (sound _ is.lines) c.echo_frames-clips.ensures.bound
+    rw (← c.self.view_is) (IsEchos-block _ c.echo_frames-clips.new.lines c.args.count c.echo_frames-clips.result is (none c) (running c) (limit c) (many c) (sound _ is.lines) c.echo_frames-clips.ensures.bound)
 
 pub echo_frames-clips-requires-clause-lines : goal.echo_frames-clips-requires-clause-lines
 echo_frames-clips-requires-clause-lines c = rw (c.deref_mut.ensures.value, c.deref.ensures.value) (_, c.self.invariant.0.lines)
@@ -71,7 +57,7 @@ pub invariant_of-self : goal.invariant_of-self
 invariant_of-self c =
     let s = c.self.inside in
     let after = (goal.at.invariant_of-self c).After-echo_frames-clips in
-    rw (written_back s.lines.items c.echo_frames-clips.new.lines s.lines.len s.lines.ok.0 (many after)) (block after, c.self.invariant.1)
+    rw (written_back s.lines.items c.echo_frames-clips.new.lines s.lines.len s.lines.ok.0 (many after)) ((rw (← c.self.view_is) at (block after)), c.self.invariant.1)
 
 pub returns-clause-through : goal.returns-clause-through
 returns-clause-through c =
@@ -81,11 +67,11 @@ returns-clause-through c =
     let frames = rw (c.deref_mut.ensures.value, c.deref.ensures.value) at c.echo_frames-clips.ensures.frames in
     let clips = rw (c.deref_mut.ensures.value, c.deref.ensures.value) at c.echo_frames-clips.ensures.clips in
     rw (← c.self.view_is, written_back s.lines.items c.echo_frames-clips.new.lines s.lines.len s.lines.ok.0 (many after))
-    (block-through (stage after) c.echo_frames-clips.new.lines c.self.invariant.0 (none after) (running after) c.args.count c.echo_frames-clips.result c.args.samples.now c.echo_frames-clips.new.samples frames clips lines)
+    (block-through _ c.echo_frames-clips.new.lines c.self.invariant.0 (none after) (running after) c.args.count c.echo_frames-clips.result c.args.samples.now c.echo_frames-clips.new.samples frames clips lines)
 
 pub returns-clause-lined : goal.returns-clause-lined
 returns-clause-lined c =
     let s = c.self.inside in
     let after = (goal.at.returns-clause-lined c).After-echo_frames-clips in
-    let within = frames-late _ (block after) in
+    let within = frames-late _ (rw (← c.self.view_is) at (block after)) in
     rw (written_back s.lines.items c.echo_frames-clips.new.lines s.lines.len s.lines.ok.0 (many after), none after) (simp append-nil (omega (arith, within)))
