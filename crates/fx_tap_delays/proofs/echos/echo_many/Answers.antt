@@ -1,5 +1,4 @@
 use Rattle.std.proofs.Common.{◌≡◌, ◌+◌, ◌-◌, ◌*◌, ◌≤◌, ◌<◌, ◌^◌, ℕ, pos, List, length, take, drop, sym, ap, ◌∙◌, arith, ℤ}
-use Rattle.std.proofs.lemmas.Grind.{common_steps}
 use Rattle.std.proofs.lemmas.List.{length-drop, length-take-le}
 use Rattle.std.proofs.Math.Nat.{mul-le-mul_left}
 use Rattle.fx_frame_base.specs.Frame.{Samples}
@@ -76,6 +75,3 @@ pub returns-clause-sound : goal.returns-clause-sound
 returns-clause-sound c came h j lt =
     let all : c.pieces.done ≡ c.args.count = omega arith in
     rw all at c.pieces.invariant.sound came h j lt
-
-pub overflow_add-clips : goal.overflow_add-clips
-overflow_add-clips c = grind (arith, common_steps)

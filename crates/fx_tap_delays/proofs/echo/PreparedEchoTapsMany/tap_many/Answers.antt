@@ -1,5 +1,4 @@
 use Rattle.std.proofs.Common.{◌≡◌, ◌+◌, ◌-◌, ◌*◌, ◌≤◌, ℕ, List, length, take, drop, ap, ◌∙◌, arith, map, ℤ}
-use Rattle.std.proofs.lemmas.Grind.{common_steps}
 use Rattle.std.proofs.Math.Nat.{mul-le-mul_left}
 use Rattle.fx_fixed.specs.Extents.{largest}
 use Rattle.fx_tap_delays.specs.DelayExtents.{tap_delay}
@@ -52,12 +51,3 @@ pieces-preserved c =
       counted = counted-more echo_taps taps-near a start line done (done + n) c.args.input.now c.args.output.now out (pieces ch n part) held long more old.made c.pieces.clips c.tap_piece-clips.result old.counted ensured.clips;
       bound = omega (arith, old.bound, ensured.bound, bound);
     }
-
-pub tap_piece-clips-requires-clause-sounds : goal.tap_piece-clips-requires-clause-sounds
-tap_piece-clips-requires-clause-sounds c = grind (arith, common_steps)
-
-pub tap_piece-clips-requires-clause-late : goal.tap_piece-clips-requires-clause-late
-tap_piece-clips-requires-clause-late c = grind (arith, common_steps)
-
-pub overflow_add-clips : goal.overflow_add-clips
-overflow_add-clips c = grind (arith, common_steps)
