@@ -56,7 +56,7 @@ module _ (ch silent_frames count : ℕ) (old mid rest_unchanged : List ℤ) (bou
 -- ---- what is meant
 
 -- the elements of a list, by their index
-index-take : {X : Type 0} (ys : List X) (from count : ℕ) (d : X) → from + count ≤ length ys → tabulate (λ k. get_or ys k d) from count ≡ take count (drop from ys)
+pub index-take : {X : Type 0} (ys : List X) (from count : ℕ) (d : X) → from + count ≤ length ys → tabulate (λ k. get_or ys k d) from count ≡ take count (drop from ys)
 index-take ys from zero d h = refl
 index-take ys from (suc count) d h =
     let more : drop from ys ≡ get_or ys from d ∷ drop (from + 1) ys = drop_more ys from d (omega arith) in
@@ -86,9 +86,6 @@ module _ (delays : List ℕ) (reach : ℕ) (all : (k : ℕ) → k < length delay
       ∙ take_all (length delays) f (omega arith)
 
   module _ (items coming : List Samples) (within : length items ≤ reach) (sides : All (λ (f : Samples). length f ≡ length delays) items) (more : All (λ (f : Samples). length f ≡ length delays) coming) where
-    silent_frames : List Samples
-    silent_frames = replicate (reach - length items) (silence (length delays))
-
     front : length (replicate (reach - length items) (silence (length delays))) ≡ reach - length items
     front = length-replicate (reach - length items) (silence (length delays))
 
@@ -140,31 +137,22 @@ even-one delays line x all is same wide = go (nat_lt (length line.items) line.ca
         let some : 0 < length (line.items ++ x ∷ []) = omega (arith, length-append line.items (x ∷ [])) in
         sym (rw first at (frame-now delays line.capacity all (line.items ++ x ∷ []) (length line.items) full (rw first (each 0 [] some))))
 
--- so many frames behind those of a line, as they were written
-pub even-all : (delays : List ℕ) (line : Frames ℤ) (width n : ℕ) (input out : List ℤ) → ((k : ℕ) → k < length delays → slice_index delays k ≡ line.capacity) → IsLine w32 line → line.channels ≡ length delays → width ≡ length delays → n * length delays ≤ length input
-    → pieces line.channels n out ≡ take n (replicate (line.capacity - length line.items) (silence line.channels) ++ (line.items ++ pieces line.channels n (take (n * width) input)))
-    → pieces (length delays) n out ≡ frames_after delay_taps delays line.items (pieces (length delays) n input)
-even-all delays line width n input out all is same wide free written =
-    let ch : ℕ = length delays in
-    let made = rw (same, wide, pieces-take ch n input free) at written in
-    let many : length (pieces ch n input) ≡ n = length-pieces ch n input in
-    let sides : All (λ (f : Samples). length f ≡ ch) line.items = λ k d h. (is.frames k d h).count ∙ same in
-    let effective = even-effective delays line.capacity all line.items (pieces ch n input) is.within sides (pieces-sides ch n input free) in
-    made ∙ ap (λ m. take m (replicate (line.capacity - length line.items) (silence ch) ++ (line.items ++ pieces ch n input))) (sym many) ∙ effective
+module _ (delays : List ℕ) (line : Frames ℤ) (n : ℕ) (input out : List ℤ) (all : (k : ℕ) → k < length delays → slice_index delays k ≡ line.capacity) (is : IsLine w32 line) (same : line.channels ≡ length delays) (free : n * length delays ≤ length input) where
+  coming : take n (replicate (line.capacity - length line.items) (silence (length delays)) ++ (line.items ++ pieces (length delays) n input)) ≡ frames_after delay_taps delays line.items (pieces (length delays) n input)
+  coming =
+      let sides : All (λ (f : Samples). length f ≡ length delays) line.items = λ k d h. (is.frames k d h).count ∙ same in
+      ap (λ m. take m (replicate (line.capacity - length line.items) (silence (length delays)) ++ (line.items ++ pieces (length delays) n input))) (sym (length-pieces (length delays) n input)) ∙ (even-effective delays line.capacity all line.items (pieces (length delays) n input) is.within sides (pieces-sides (length delays) n input free))
+
+  -- so many frames behind those of a line, as they were written
+  pub even-all : (width : ℕ) → width ≡ length delays → pieces line.channels n out ≡ take n (replicate (line.capacity - length line.items) (silence line.channels) ++ (line.items ++ pieces line.channels n (take (n * width) input)))
+      → pieces (length delays) n out ≡ frames_after delay_taps delays line.items (pieces (length delays) n input)
+  even-all width wide written = (rw (same, wide, pieces-take (length delays) n input free) at written) ∙ coming
+
+  -- so many of the oldest frames of a full line are what is made of as many that come
+  pub even-exchanged : length line.items ≡ line.capacity → n ≤ length line.items → pieces line.channels n out ≡ take n line.items → pieces (length delays) n out ≡ frames_after delay_taps delays line.items (pieces (length delays) n input)
+  even-exchanged full bound written =
+      let none : line.capacity - length line.items ≡ 0 = omega arith in
+      (rw same at written) ∙ sym (take-append-le n line.items (pieces (length delays) n input) bound) ∙ (rw none at coming)
 
 pub even-line : (line : Frames ℤ) (ch width n : ℕ) (input : List ℤ) (items : List Samples) → line.channels ≡ ch → width ≡ ch → n * ch ≤ length input → items ≡ pushed_all line (pieces line.channels n (take (n * width) input)) → items ≡ last_of line.capacity (line.items ++ pieces ch n input)
 even-line line ch width n input items same wide free is = rw (same, wide, pieces-take ch n input free) at is
-
--- so many of the oldest frames of a full line are what is made of as many that come
-pub even-exchanged : (delays : List ℕ) (line : Frames ℤ) (n : ℕ) (input out : List ℤ) → ((k : ℕ) → k < length delays → slice_index delays k ≡ line.capacity) → IsLine w32 line → line.channels ≡ length delays → n * length delays ≤ length input
-    → length line.items ≡ line.capacity → n ≤ length line.items → pieces line.channels n out ≡ take n line.items
-    → pieces (length delays) n out ≡ frames_after delay_taps delays line.items (pieces (length delays) n input)
-even-exchanged delays line n input out all is same free full bound written =
-    let ch : ℕ = length delays in
-    let none : line.capacity - length line.items ≡ 0 = omega arith in
-    let made : pieces ch n out ≡ take n line.items = rw same at written in
-    let many : length (pieces ch n input) ≡ n = length-pieces ch n input in
-    let sides : All (λ (f : Samples). length f ≡ ch) line.items = λ k d h. (is.frames k d h).count ∙ same in
-    let effective = even-effective delays line.capacity all line.items (pieces ch n input) is.within sides (pieces-sides ch n input free) in
-    let rest_unchanged : take (length (pieces ch n input)) (line.items ++ pieces ch n input) ≡ frames_after delay_taps delays line.items (pieces ch n input) = rw none at effective in
-    made ∙ sym (take-append-le n line.items (pieces ch n input) bound) ∙ ap (λ m. take m (line.items ++ pieces ch n input)) (sym many) ∙ rest_unchanged

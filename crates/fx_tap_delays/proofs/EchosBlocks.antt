@@ -14,6 +14,7 @@ use Rattle.fx_frame_base.proofs.FedLaws.{Fed-then}
 use Rattle.fx_frame_base.proofs.Pieces.{length-pieces}
 use Rattle.fx_tap_delays.specs.Echo.{EchoArguments}
 use Rattle.fx_tap_delays.specs.EchosState.{EchosState, IsEchoLine, IsEchos, came_of, delay_at, echos_acts, fed, frame_of_lines, frames_of_lines, let_go, line_at, lines_after, or_silence, echo_places, series_lines_after, through_lines}
+use Rattle.fx_tap_delays.proofs.EchosLaws.{places-late}
 use Rattle.fx_tap_delays.proofs.EchosPieces.{pushed-within}
 use Rattle.fx_frame_base.proofs.Tabulate.{length-tabulate}
 
@@ -106,67 +107,50 @@ module _ (a : EchoArguments) where
         rw (many, clipped) at more,
       )
 
--- one frame, passed on in its place
-pub frame-passed : (s : EchosState) (lines : List (Frames ℤ)) (x y : Samples) (clips : ℕ) → s.pending ≡ None → s.pending_clips ≡ 0 → s.tail ≡ 0 → s.ended ≡ false → s.given ≡ s.taken → echo_places s.lines ≡ sum_of_delays s.arguments.taps
-    → y ≡ (made s.arguments s.lines x).samples → clips ≡ (made s.arguments s.lines x).clips → lines ≡ next s.arguments s.lines x
-    → PassedOn echos_acts Through s (record s { lines = lines; taken = s.taken + 1; given = s.given + 1; clips = s.clips + clips }) x y
-frame-passed s lines x y clips h k t over g places out_is counted went =
-    let a : EchoArguments = s.arguments in
-    let one = one-passed a s.lines s.taken s.clips x places in
-    let whole : ◌≡◌ {A = EchosState} (record { arguments = s.arguments; lines = s.lines; pending = s.pending; pending_clips = s.pending_clips; tail = s.tail; taken = s.taken; given = s.given; clips = s.clips; ended = s.ended }) (ready a s.lines s.taken s.clips) = rw (h, k, t, over, g) refl in
-    let left : ◌≡◌ {A = EchosState} (record { arguments = s.arguments; lines = lines; pending = s.pending; pending_clips = s.pending_clips; tail = s.tail; taken = s.taken + 1; given = s.given + 1; clips = s.clips + clips; ended = s.ended }) (ready a lines (s.taken + 1) (s.clips + clips)) = rw (h, k, t, over, g) refl in
-    let last : ◌≡◌ {A = EchosState} (record { arguments = s.arguments; lines = lines; pending = s.pending; pending_clips = s.pending_clips; tail = s.tail; taken = s.taken + 1; given = s.given + 1; clips = s.clips + clips; ended = s.ended })
-    (ready a (next a s.lines x) (s.taken + 1) (s.clips + (made a s.lines x).clips)) =
-    left ∙ ap (λ (j : ℕ). ready a lines (s.taken + 1) (s.clips + j)) counted
-    ∙ ap (λ (ls : List (Frames ℤ)). ready a ls (s.taken + 1) (s.clips + (made a s.lines x).clips)) went in
-    let start : s ≡ ready a s.lines s.taken s.clips = whole in
-    let new : record s { lines = lines; taken = s.taken + 1; given = s.given + 1; clips = s.clips + clips } ≡ ready a (next a s.lines x) (s.taken + 1) (s.clips + (made a s.lines x).clips) = last in
-    let From : EchosState → Type 0 = λ u. PassedOn echos_acts Through u (ready a (next a s.lines x) (s.taken + 1) (s.clips + (made a s.lines x).clips)) x (made a s.lines x).samples in
-    let To : EchosState → Type 0 = λ u. PassedOn echos_acts Through s u x (made a s.lines x).samples in
-    rw out_is (subst To (sym new) (subst From (sym start) one))
+-- such a stage is one with no frame in hand that has not ended
+ready-is : (s : EchosState) → IsEchos s → s.pending ≡ None → s.ended ≡ false → ready s.arguments s.lines s.taken s.clips ≡ s
+ready-is s is none running =
+    let zero : s.pending_clips ≡ 0 = is.idle (rw none refl) in
+    let no_tail : s.tail ≡ 0 = is.not_ended running in
+    let counted : s.given + 0 + s.tail ≡ s.taken + 0 = rw (none, running) at is.counted in
+    let even : s.given ≡ s.taken = omega (arith, counted, no_tail) in
+    let whole : ◌≡◌ {A = EchosState} (record { arguments = s.arguments; lines = s.lines; pending = s.pending; pending_clips = s.pending_clips; tail = s.tail; taken = s.taken; given = s.given; clips = s.clips; ended = s.ended }) (ready s.arguments s.lines s.taken s.clips) = rw (none, zero, no_tail, running, even) refl in
+    sym whole
 
--- a block of frames: the counters are added to once
-pub block-fed : (s : EchosState) (lines : List (Frames ℤ)) (n clips : ℕ) (input output : List ℤ) → s.pending ≡ None → s.pending_clips ≡ 0 → s.tail ≡ 0 → s.ended ≡ false → s.given ≡ s.taken → echo_places s.lines ≡ sum_of_delays s.arguments.taps
-    → pieces s.arguments.channels n output ≡ map (λ (g : Given). g.samples) (through_lines s.arguments s.lines (pieces s.arguments.channels n input)) → clips ≡ total (λ (g : Given). g.clips) (through_lines s.arguments s.lines (pieces s.arguments.channels n input))
-    → lines ≡ series_lines_after s.arguments.channels s.lines (pieces s.arguments.channels n input)
-    → Fed echos_acts s (pieces s.arguments.channels n input) (pieces s.arguments.channels n output) (record s { lines = lines; taken = s.taken + n; given = s.given + n; clips = s.clips + clips })
-block-fed s lines n clips input output h k t over g places out_is counted went =
-    let a : EchoArguments = s.arguments in
-    let xs : List Samples = pieces a.channels n input in
-    let all = lines-fed a xs s.lines s.taken s.clips places in
-    let many : length xs ≡ n = length-pieces a.channels n input in
-    let whole : ◌≡◌ {A = EchosState} (record { arguments = s.arguments; lines = s.lines; pending = s.pending; pending_clips = s.pending_clips; tail = s.tail; taken = s.taken; given = s.given; clips = s.clips; ended = s.ended }) (ready a s.lines s.taken s.clips) = rw (h, k, t, over, g) refl in
-    let left : ◌≡◌ {A = EchosState} (record { arguments = s.arguments; lines = lines; pending = s.pending; pending_clips = s.pending_clips; tail = s.tail; taken = s.taken + n; given = s.given + n; clips = s.clips + clips; ended = s.ended }) (ready a lines (s.taken + n) (s.clips + clips)) = rw (h, k, t, over, g) refl in
-    let last : ◌≡◌ {A = EchosState} (record { arguments = s.arguments; lines = lines; pending = s.pending; pending_clips = s.pending_clips; tail = s.tail; taken = s.taken + n; given = s.given + n; clips = s.clips + clips; ended = s.ended })
-    (ready a (series_lines_after a.channels s.lines xs) (s.taken + length xs) (s.clips + total (λ (g : Given). g.clips) (through_lines a s.lines xs))) =
-    left ∙ ap (λ (j : ℕ). ready a lines (s.taken + j) (s.clips + clips)) (sym many) ∙ ap (λ (j : ℕ). ready a lines (s.taken + length xs) (s.clips + j)) counted
-    ∙ ap (λ (ls : List (Frames ℤ)). ready a ls (s.taken + length xs) (s.clips + total (λ (g : Given). g.clips) (through_lines a s.lines xs))) went in
-    let start : s ≡ ready a s.lines s.taken s.clips = whole in
-    rw (out_is, last) (subst (λ (u : EchosState). Fed echos_acts u xs (map (λ (g : Given). g.samples) (through_lines a s.lines xs)) (ready a (series_lines_after a.channels s.lines xs) (s.taken + length xs) (s.clips + total (λ (g : Given). g.clips) (through_lines a s.lines xs)))) (sym start) all)
+-- the stage after so many frames went through it
+abbrev pub passed_echos : EchosState → List (Frames ℤ) → ℕ → ℕ → EchosState
+passed_echos s lines n clips = record s { lines = lines; taken = s.taken + n; given = s.given + n; clips = s.clips + clips }
 
--- the same, each frame given before the next is taken
-pub block-through : (s : EchosState) (lines : List (Frames ℤ)) (n clips : ℕ) (input output : List ℤ) → s.pending ≡ None → s.pending_clips ≡ 0 → s.tail ≡ 0 → s.ended ≡ false → s.given ≡ s.taken → echo_places s.lines ≡ sum_of_delays s.arguments.taps
-    → pieces s.arguments.channels n output ≡ map (λ (g : Given). g.samples) (through_lines s.arguments s.lines (pieces s.arguments.channels n input)) → clips ≡ total (λ (g : Given). g.clips) (through_lines s.arguments s.lines (pieces s.arguments.channels n input))
-    → lines ≡ series_lines_after s.arguments.channels s.lines (pieces s.arguments.channels n input)
-    → EachThrough echos_acts (pieces s.arguments.channels n input) (pieces s.arguments.channels n output) s (record s { lines = lines; taken = s.taken + n; given = s.given + n; clips = s.clips + clips })
-block-through s lines n clips input output h k t over g places out_is counted went =
-    let a : EchoArguments = s.arguments in
-    let xs : List Samples = pieces a.channels n input in
-    let all = lines-through a xs s.lines s.taken s.clips places in
-    let many : length xs ≡ n = length-pieces a.channels n input in
-    let whole : ◌≡◌ {A = EchosState} (record { arguments = s.arguments; lines = s.lines; pending = s.pending; pending_clips = s.pending_clips; tail = s.tail; taken = s.taken; given = s.given; clips = s.clips; ended = s.ended }) (ready a s.lines s.taken s.clips) = rw (h, k, t, over, g) refl in
-    let left : ◌≡◌ {A = EchosState} (record { arguments = s.arguments; lines = lines; pending = s.pending; pending_clips = s.pending_clips; tail = s.tail; taken = s.taken + n; given = s.given + n; clips = s.clips + clips; ended = s.ended }) (ready a lines (s.taken + n) (s.clips + clips)) = rw (h, k, t, over, g) refl in
-    let last : ◌≡◌ {A = EchosState} (record { arguments = s.arguments; lines = lines; pending = s.pending; pending_clips = s.pending_clips; tail = s.tail; taken = s.taken + n; given = s.given + n; clips = s.clips + clips; ended = s.ended })
-    (ready a (series_lines_after a.channels s.lines xs) (s.taken + length xs) (s.clips + total (λ (g : Given). g.clips) (through_lines a s.lines xs))) =
-    left ∙ ap (λ (j : ℕ). ready a lines (s.taken + j) (s.clips + clips)) (sym many) ∙ ap (λ (j : ℕ). ready a lines (s.taken + length xs) (s.clips + j)) counted
-    ∙ ap (λ (ls : List (Frames ℤ)). ready a ls (s.taken + length xs) (s.clips + total (λ (g : Given). g.clips) (through_lines a s.lines xs))) went in
-    let start : s ≡ ready a s.lines s.taken s.clips = whole in
-    rw (out_is, last) (subst (λ (u : EchosState). EachThrough echos_acts xs (map (λ (g : Given). g.samples) (through_lines a s.lines xs)) u (ready a (series_lines_after a.channels s.lines xs) (s.taken + length xs) (s.clips + total (λ (g : Given). g.clips) (through_lines a s.lines xs)))) (sym start) all)
+module _ (s : EchosState) (lines : List (Frames ℤ)) (is : IsEchos s) (none : s.pending ≡ None) (running : s.ended ≡ false) where
+  -- one frame, passed on in its place
+  pub frame-passed : (x y : Samples) (clips : ℕ) → y ≡ (made s.arguments s.lines x).samples → clips ≡ (made s.arguments s.lines x).clips → lines ≡ next s.arguments s.lines x → PassedOn echos_acts Through s (passed_echos s lines 1 clips) x y
+  frame-passed x y clips out_is counted went =
+      rw (out_is, counted, went)
+      (subst (λ (u : EchosState). PassedOn echos_acts Through u (passed_echos u (next s.arguments s.lines x) 1 (made s.arguments s.lines x).clips) x (made s.arguments s.lines x).samples) (ready-is s is none running) (one-passed s.arguments s.lines s.taken s.clips x (places-late s is)))
+
+  module _ (n clips : ℕ) (input output : List ℤ) (out_is : pieces s.arguments.channels n output ≡ map (λ (g : Given). g.samples) (through_lines s.arguments s.lines (pieces s.arguments.channels n input)))
+      (counted : clips ≡ total (λ (g : Given). g.clips) (through_lines s.arguments s.lines (pieces s.arguments.channels n input))) (went : lines ≡ series_lines_after s.arguments.channels s.lines (pieces s.arguments.channels n input)) where
+    block-of : (P : List Samples → EchosState → EchosState → Type 0)
+        → P (map (λ (g : Given). g.samples) (through_lines s.arguments s.lines (pieces s.arguments.channels n input))) (ready s.arguments s.lines s.taken s.clips) (ready s.arguments (series_lines_after s.arguments.channels s.lines (pieces s.arguments.channels n input)) (s.taken + length (pieces s.arguments.channels n input)) (s.clips + total (λ (g : Given). g.clips) (through_lines s.arguments s.lines (pieces s.arguments.channels n input))))
+        → P (pieces s.arguments.channels n output) s (passed_echos s lines n clips)
+    block-of P p =
+        let gs : List Given = through_lines s.arguments s.lines (pieces s.arguments.channels n input) in
+        rw (out_is, counted, went)
+        (subst (λ (u : EchosState). P (map (λ (g : Given). g.samples) gs) u (passed_echos u (series_lines_after s.arguments.channels s.lines (pieces s.arguments.channels n input)) n (total (λ (g : Given). g.clips) gs))) (ready-is s is none running)
+        (rw (length-pieces s.arguments.channels n input) at p))
+
+    -- a block of frames: the counters are added to once
+    pub block-fed : Fed echos_acts s (pieces s.arguments.channels n input) (pieces s.arguments.channels n output) (passed_echos s lines n clips)
+    block-fed = block-of (λ ys u v. Fed echos_acts u (pieces s.arguments.channels n input) ys v) (lines-fed s.arguments (pieces s.arguments.channels n input) s.lines s.taken s.clips (places-late s is))
+
+    -- the same, each frame given before the next is taken
+    pub block-through : EachThrough echos_acts (pieces s.arguments.channels n input) (pieces s.arguments.channels n output) s (passed_echos s lines n clips)
+    block-through = block-of (λ ys u v. EachThrough echos_acts (pieces s.arguments.channels n input) ys u v) (lines-through s.arguments (pieces s.arguments.channels n input) s.lines s.taken s.clips (places-late s is))
 
 -- the state after it
 pub IsEchos-block : (s : EchosState) (lines : List (Frames ℤ)) (n clips : ℕ) → IsEchos s → s.pending ≡ None → s.ended ≡ false → s.taken + n ≤ 2 ^ 56 → length lines ≡ length s.lines
     → ((j : ℕ) → j < length lines → IsEchoLine s.arguments.channels (came_of s + n) j (delay_at s.arguments.taps j) (line_at lines j)) → clips ≤ n * 16
-    → IsEchos (record s { lines = lines; taken = s.taken + n; given = s.given + n; clips = s.clips + clips })
+    → IsEchos (passed_echos s lines n clips)
 IsEchos-block s lines n clips is none running bound many sound little =
     let counted : s.given + 0 + s.tail ≡ s.taken + 0 = rw (none, running) at is.counted in
     let came : s.given + 0 + n ≡ s.given + n + 0 = omega arith in

@@ -211,9 +211,6 @@ IsEchos-drained s lines silent_frame clips is none some small lines_are clips_bo
       fits = is.fits;
     }
 
-pub length-series : (s : EchosState) (x : Samples) → length (series_after s x) ≡ length s.lines
-length-series s x = length-after s.arguments.channels s.lines x (replicate s.arguments.channels (pos 0))
-
 -- ---- a new one
 
 pub late-each : (es : List (ℕ × ℤ)) (k : ℕ) (d : ℕ × ℤ) → k < length es → (get_or es k d).0 ≤ sum_of_delays es

@@ -16,6 +16,7 @@ use Rattle.fx_tap_delays.specs.Echo.{EchoArguments}
 use Rattle.fx_tap_delays.specs.EchosState.{after_push, fed, frame_of_lines, gone_at, let_go, line_at, lines_after, or_silence, series_lines_after, through_lines}
 use Rattle.fx_tap_sums.specs.Products.{sum_of_products}
 use Rattle.fx_frame.proofs.SamplePieces.{pieces-sides}
+use Rattle.fx_tap_delays.proofs.Delaying.{index-take}
 use Rattle.fx_tap_delays.proofs.EchosSeries.{Small, small_of}
 use Rattle.fx_tap_delays.proofs.EchosStored.{same-line}
 use Rattle.fx_frame.proofs.TapBlocks.{last-joined, last-whole, length-last}
@@ -172,22 +173,13 @@ series_lines-more c ls (x ∷ xs) ys = series_lines-more c (lines_after c ls x (
 
 -- ---- samples that lie one after another
 
-index-take : (ys : List ℤ) (from count : ℕ) → from + count ≤ length ys → (F : ℕ → ℤ) → ((k : ℕ) → k < count → get_or ys (from + k) (pos 0) ≡ F (from + k)) → take count (drop from ys) ≡ tabulate F from count
-index-take ys from zero free F h = refl
-index-take ys from (suc count) free F h =
-    let more = drop_more ys from (pos 0) (omega arith) in
-    let here : get_or ys from (pos 0) ≡ F from = simp add-zero at (h 0 (omega arith)) in
-    let next : from + 1 ≡ suc from = omega arith in
-    let rest = index-take ys (suc from) count (omega arith) F (λ k l. let at : suc from + k ≡ from + suc k = omega arith in rw at (h (suc k) (omega arith))) in
-    rw (more, here, next) (ap (λ zs. F from ∷ zs) rest)
-
 -- the sums of so many frames and what the line before let go
 pub fed-pieces : (c n : ℕ) (ys frames before : List ℤ) → n * c ≤ length ys → ((k : ℕ) → k < n * c → get_or ys k (pos 0) ≡ get_or frames k (pos 0) +ℤ get_or before k (pos 0)) → pieces c n ys ≡ fed_all c (pieces c n frames) (pieces c n before)
 fed-pieces c zero ys frames before free h = refl
 fed-pieces c (suc n) ys frames before free h =
     let all : suc n * c ≡ n * c + c = suc-mul n c in
     let first : take c ys ≡ fed c (take c frames) (take c before) =
-    index-take ys 0 c (omega arith) (λ k. get_or (take c frames) k (pos 0) +ℤ get_or (take c before) k (pos 0)) (λ k l.
+    sym (index-take ys 0 c (pos 0) (omega arith)) ∙ tabulate-same _ _ 0 0 c (λ k l.
     let at : 0 + k ≡ k = zero-add k in
     rw (at, get_or-take c frames k (pos 0) l, get_or-take c before k (pos 0) l) (h k (omega arith))) in
     let rest = fed-pieces c n (drop c ys) (drop c frames) (drop c before) (omega (arith, length-drop c ys)) (λ k l.
@@ -211,7 +203,6 @@ flat-small c (suc n) m xs long all k = go (cases_lt k c) (flat-small c n m (drop
 -- what a line lets go is no larger than its frames
 pub latest-small : (m n late : ℕ) (l : Frames ℤ) → All (All (λ x. unsigned_abs x ≤ m)) l.items → All (All (λ x. unsigned_abs x ≤ m)) (take n (latest_frames (pos 0) late l))
 latest-small m n late l small =
-    let Each : Samples → Type 0 = All (λ x. unsigned_abs x ≤ m) in
     let silent_frame : All (λ x. unsigned_abs x ≤ m) (replicate l.channels (pos 0)) = All-replicate (λ x. unsigned_abs x ≤ m) l.channels (pos 0) (omega arith) in
     All-take (All (λ x. unsigned_abs x ≤ m)) n (latest_frames (pos 0) late l)
     (All-append (All (λ x. unsigned_abs x ≤ m)) (replicate (late - length l.items) (replicate l.channels (pos 0))) (drop (length l.items - late) l.items)

@@ -8,12 +8,14 @@ pub mod EchoWeights
 pub mod EchoWords
 pub mod EchosBlocks
 pub mod EchosGiven
+pub mod EchosGroups
 pub mod EchosLaws
 pub mod EchosMeaning
 pub mod EchosPieces
 pub mod EchosSeries
 pub mod EchosStored
 pub mod EchosThawed
+pub mod Groups
 pub mod MaxDelay
 pub mod OneEcho
 pub mod SumPieces

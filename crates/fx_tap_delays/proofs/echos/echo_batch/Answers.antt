@@ -1,6 +1,6 @@
-use Rattle.std.proofs.Common.{◌≡◌, ◌≤◌, ◌*◌, ◌∙◌, arith, length, replicate, pos}
+use Rattle.std.proofs.Common.{rules, ◌≡◌, ◌≤◌, ◌*◌, ◌∙◌, arith, length, replicate, pos}
+use Rattle.std.proofs.lemmas.Grind.{common_steps}
 use Rattle.std.proofs.lemmas.List.{length-replicate, length-take-le}
-use Rattle.fx_tap_delays.specs.EchoWeights.{Suits}
 use Rattle.fx_tap_sums.specs.Weights.{Weights}
 use Rattle.fx_frame_base.proofs.ListPlaces.{zeros-part}
 use Rattle.fx_tap_delays.proofs.EchosGiven.{given-clips, given-frames}
@@ -9,20 +9,15 @@ use Rattle.fx_tap_delays.proofs.echos.echo_batch.Goals as goal
 pub pass_piece-requires-clause-empty : goal.pass_piece-requires-clause-empty
 pass_piece-requires-clause-empty g c = λ k. zeros-part (length c.args.samples.now) g.row.N k
 
-pub returns-clause-frames : goal.returns-clause-frames
-returns-clause-frames g c a suits width many =
+pub returns : goal.returns
+returns g c =
     let w : Weights = record { weights = c.small.inside.weights; denominator = c.small.inside.denominator } in
-    let suited : Suits a w = rw (← c.small.view_is) at suits in
-    let value = rw (← c.small.view_is, ← width) at c.pass_piece.ensures.value in
     let free : length c.args.samples.now ≤ length (replicate g.row.N (pos 0)) = omega (arith, length-replicate g.row.N (pos 0), c.requires.batch.0) in
     let long : length c.pass_piece.new.sums ≡ c.args.count * c.args.channels = c.pass_piece.auto.sums ∙ length-take-le (length c.args.samples.now) (replicate g.row.N (pos 0)) free ∙ c.requires.samples in
-    rw (← width) (given-frames a w suited c.args.lines.now c.args.samples.now c.args.count c.pass_piece.new.sums many (rw (← width) at long) value c.round_sums.new.out c.round_sums.ensures.samples)
-
-pub returns-clause-clips : goal.returns-clause-clips
-returns-clause-clips g c a suits width many =
-    let w : Weights = record { weights = c.small.inside.weights; denominator = c.small.inside.denominator } in
-    let suited : Suits a w = rw (← c.small.view_is) at suits in
-    let value = rw (← c.small.view_is, ← width) at c.pass_piece.ensures.value in
-    let free : length c.args.samples.now ≤ length (replicate g.row.N (pos 0)) = omega (arith, length-replicate g.row.N (pos 0), c.requires.batch.0) in
-    let long : length c.pass_piece.new.sums ≡ c.args.count * c.args.channels = c.pass_piece.auto.sums ∙ length-take-le (length c.args.samples.now) (replicate g.row.N (pos 0)) free ∙ c.requires.samples in
-    rw (← width) (given-clips a w suited c.args.lines.now c.args.samples.now c.args.count c.pass_piece.new.sums many (rw (← width) at long) value c.round_sums.result c.round_sums.ensures.clips)
+    record {
+      frames = λ a suits width many. rw (← width) (given-frames a w (rw (← c.small.view_is) at suits) c.args.lines.now c.args.samples.now c.args.count c.pass_piece.new.sums many (rw (← width) at long) (rw (← c.small.view_is, ← width) at c.pass_piece.ensures.value) c.round_sums.new.out c.round_sums.ensures.samples);
+      clips = λ a suits width many. rw (← width) (given-clips a w (rw (← c.small.view_is) at suits) c.args.lines.now c.args.samples.now c.args.count c.pass_piece.new.sums many (rw (← width) at long) (rw (← c.small.view_is, ← width) at c.pass_piece.ensures.value) c.round_sums.result c.round_sums.ensures.clips);
+      lines = first_of (search rules, grind (arith, common_steps));
+      bound = first_of (search rules, grind (arith, common_steps));
+      small = first_of (search rules, grind (arith, common_steps));
+    }

@@ -1,17 +1,14 @@
-use Rattle.std.proofs.Common.{append_assoc, add-zero, ◌≡◌, ◌+◌, ◌-◌, ◌*◌, ◌≤◌, ◌<◌, ℕ, List, [], ◌∷◌, ◌++◌, length, map, take, drop, refl, sym, ap, ◌∙◌, arith, add-one, suc, ℤ}
-use Rattle.std.proofs.lemmas.List.{drop-drop, length-drop, length-take-le, map-append}
+use Rattle.std.proofs.Common.{add-zero, ◌≡◌, ◌+◌, ◌-◌, ◌*◌, ◌≤◌, ◌<◌, ℕ, List, [], ◌∷◌, length, take, drop, refl, sym, ap, ◌∙◌, arith, add-one, suc, ℤ}
+use Rattle.std.proofs.lemmas.List.{length-drop, length-take-le}
 use Rattle.std.proofs.Math.Nat.{suc-mul, mul-le-mul_right}
 use Rattle.fx_frame_base.specs.Frame.{Samples}
-use Rattle.fx_frame_base.specs.Holds.{total}
-use Rattle.fx_frame_base.specs.Lists.{pieces}
-use Rattle.fx_frame_base.specs.Stage.{Given}
 use Rattle.fx_frame_line.specs.Line.{Frames}
-use Rattle.fx_frame_base.proofs.FedLaws.{total-append}
-use Rattle.fx_frame_base.proofs.Puts.{drop-put, pieces-more, pieces-put}
+use Rattle.fx_frame_base.proofs.Puts.{pieces-more}
 use Rattle.fx_tap_delays.specs.Echo.{EchoArguments, echo_with}
-use Rattle.fx_tap_delays.specs.EchosState.{delay_at, series_lines_after, through_lines}
+use Rattle.fx_tap_delays.specs.EchosState.{delay_at, series_lines_after}
+use Rattle.fx_tap_delays.proofs.EchosGroups.{sent-clips, sent-frames, sent-lines}
 use Rattle.fx_tap_delays.proofs.EchosLaws.{series_lines-sound}
-use Rattle.fx_tap_delays.proofs.EchosPieces.{series_lines-more, through-more}
+use Rattle.fx_tap_delays.proofs.Groups.{frame-put, frame-rest}
 use Rattle.fx_tap_delays.proofs.echos.echo_over_by_frames.Goals as goal
 
 pub slice_bounds-frame-end : goal.slice_bounds-frame-end
@@ -26,44 +23,32 @@ frames-preserved c =
     let turn : ℕ = c.frames.turn in
     let at : ℕ = turn * ch in
     let old = c.frames.invariant in
-    let start : List ℤ = c.args.samples.now in
+    let input : List ℤ = c.args.samples.now in
     let out : List ℤ = c.frames.samples in
     let made : Samples = c.echo_over-clips.new.samples in
     let first : List (Frames ℤ) = c.args.lines.now in
-    let xs : List Samples = pieces ch turn start in
-    let x : Samples = take ch (drop at start) in
+    let now : List (Frames ℤ) = c.frames.lines in
+    let x : Samples = take ch (drop at input) in
     let width : at + ch - at ≡ ch = omega arith in
     let next : suc turn * ch ≤ c.args.count * ch = mul-le-mul_right ch (omega arith) in
     let one : (turn + 1) * ch ≡ at + ch = rw add-one (omega (arith, suc-mul turn ch)) in
     let fits : at + ch ≤ length out = omega (arith, next, suc-mul turn ch, c.requires.samples, c.frames.auto.samples) in
     let kept = rw width at c.echo_over-clips.auto.samples in
     let sides : length made ≡ ch = kept ∙ length-take-le ch (drop at out) (omega (arith, fits, length-drop at out)) in
-    let new : List ℤ = take at out ++ (made ++ drop ch (drop at out)) in
-    let put : new ≡ take at out ++ made ++ drop (at + length made) out =
-    sym (append_assoc (take at out) made (drop ch (drop at out)))
-    ∙ ap (λ rest. take at out ++ made ++ rest) (drop-drop ch at out ∙ ap (λ n. drop (at + n) out) (sym sides)) in
-    let more : pieces ch (turn + 1) start ≡ xs ++ x ∷ [] = pieces-more ch turn at start refl in
+    let more = pieces-more ch turn at input refl in
     let ensured = rw (width, old.rest_unchanged) at c.echo_over-clips.ensures in
-    let lines : c.echo_over-clips.new.lines ≡ series_lines_after ch c.frames.lines (x ∷ []) = ensured.lines in
-    let given : through_lines a first (pieces ch (turn + 1) start) ≡ through_lines a first xs ++ through_lines a c.frames.lines (x ∷ []) =
-    ap (through_lines a first) more ∙ through-more a first xs (x ∷ []) ∙ ap (λ ls. through_lines a first xs ++ through_lines a ls (x ∷ [])) (sym old.lines) in
+    let lines : c.echo_over-clips.new.lines ≡ series_lines_after ch now (x ∷ []) = ensured.lines in
     rw width
     record {
-      lines = lines ∙ ap (λ ls. series_lines_after ch ls (x ∷ [])) old.lines ∙ sym (ap (series_lines_after ch first) more ∙ series_lines-more ch first xs (x ∷ []));
-      made =
-          pieces-put ch turn at out made new refl sides fits put
-          ∙ ap (λ ps. ps ++ made ∷ []) old.made ∙ ap (λ y. map (λ (g : Given). g.samples) (through_lines a first xs) ++ y ∷ []) ensured.frame
-          ∙ sym (ap (map (λ (g : Given). g.samples)) given ∙ map-append (λ (g : Given). g.samples) (through_lines a first xs) (through_lines a c.frames.lines (x ∷ [])));
-      counted =
-          ap (λ n. n + c.echo_over-clips.result) old.counted
-          ∙ ap (λ n. total (λ (g : Given). g.clips) (through_lines a first xs) + n) (ensured.clips ∙ sym (add-zero _))
-          ∙ sym (ap (total (λ (g : Given). g.clips)) given ∙ total-append (λ (g : Given). g.clips) (through_lines a first xs) (through_lines a c.frames.lines (x ∷ [])));
+      lines = lines ∙ sent-lines ch turn (turn + 1) first now input (x ∷ []) more old.lines;
+      made = sent-frames ch turn (turn + 1) first now input (x ∷ []) more old.lines a refl out _ (made ∷ []) old.made (frame-put ch turn at out made refl sides fits) (ap (λ y. y ∷ []) ensured.frame);
+      counted = sent-clips ch turn (turn + 1) first now input (x ∷ []) more old.lines a refl c.frames.clips c.echo_over-clips.result old.counted (ensured.clips ∙ sym (add-zero _));
       bound = omega (arith, old.bound, ensured.bound);
-      rest_unchanged = rw one (drop-put at ch start out made new sides fits put old.rest_unchanged);
+      rest_unchanged = rw one (frame-rest ch turn at out made refl sides fits input old.rest_unchanged);
       sound = λ came h j lt.
-          let inside : j < length (series_lines_after ch c.frames.lines (x ∷ [])) = omega (arith, lt, ap length lines) in
+          let inside : j < length (series_lines_after ch now (x ∷ [])) = omega (arith, lt, ap length lines) in
           let sum : came + turn + 1 ≡ came + (turn + 1) = omega arith in
-          let is = series_lines-sound ch (came + turn) (delay_at c.args.taps.now) c.frames.lines (x ∷ []) (omega (arith, c.frames.auto.lines, c.requires.taps.1)) (λ i l. let zero : i ≡ 0 = omega arith in rw zero ensured.small) (old.sound came h) j inside in
+          let is = series_lines-sound ch (came + turn) (delay_at c.args.taps.now) now (x ∷ []) (omega (arith, c.frames.auto.lines, c.requires.taps.1)) (λ i l. let zero : i ≡ 0 = omega arith in rw zero ensured.small) (old.sound came h) j inside in
           rw lines (rw sum at is);
     }
 

@@ -17,8 +17,8 @@ use Rattle.fx_tap_delays.proofs.EchosPieces.{column, column-is, fed-pieces, fed_
 use Rattle.fx_frame_base.proofs.ChannelPlaces.{within-frames}
 use Rattle.fx_tap_sums.proofs.Cyclic.{nothing}
 use Rattle.fx_tap_delays.proofs.echos.pass_piece.Given as given
-use Rattle.fx_tap_delays.proofs.echos.pass_piece.Goals as goal
 use Rattle.fx_tap_delays.proofs.echos.pass_piece.Goals.{After-before_into, After-capacity}
+use Rattle.fx_tap_delays.proofs.echos.pass_piece.Goals as goal
 
 pub lines-init : goal.lines-init
 lines-init g c =

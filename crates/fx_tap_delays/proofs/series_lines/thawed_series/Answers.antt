@@ -1,5 +1,4 @@
 use Rattle.std.proofs.Common.{◌≡◌, ◌≤◌, ◌++◌, ◌∷◌, [], ◌∙◌, inr, ℕ, ℤ, List, length, get_or, min, take, drop, pos, refl, sym, ap, arith}
-use Rattle.std.proofs.lemmas.Grind.{common_steps}
 use Rattle.std.proofs.Math.Logic.{⊎_map}
 use Rattle.std.proofs.lemmas.List.{length-append}
 use Rattle.std.proofs.lemmas.List.Elements.{All-get_or}
@@ -73,12 +72,3 @@ pub thawed_series_line-requires-clause-delay : goal.thawed_series_line-requires-
 thawed_series_line-requires-clause-delay c =
     let maximum = late-each c.args.taps.now c.taps.place c.index-taps-place.result c.taps-test.true in
     omega (arith, maximum, c.requires.lines)
-
-pub returns-then-not-is_empty-clause-refused : goal.returns-then-not-is_empty-clause-refused
-returns-then-not-is_empty-clause-refused c = grind (arith, common_steps)
-
-pub returns-clause-stored : goal.returns-clause-stored
-returns-clause-stored c = grind (arith, common_steps)
-
-pub returns-clause-only : goal.returns-clause-only
-returns-clause-only c = grind (arith, common_steps)

@@ -24,21 +24,13 @@ loop-channel-preserved c =
       bound = omega (arith, c.from-clips.ensures, one, c.loop-channel.invariant.bound);
     }
 
-pub round_clip-sample-requires-clause-low : goal.round_clip-sample-requires-clause-low
-round_clip-sample-requires-clause-low c =
+pub round_clip-sample-requires : goal.round_clip-sample-requires
+round_clip-sample-requires c =
     let s : ℤ = slice_index_or c.args.sums.now c.loop-channel.channel (pos 0) in
     let gain : c.from-factor.result ≡ c.args.gain = c.from-factor.ensures ∙ search rules ∙ c.trillionths.ensures.value in
     let small : unsigned_abs c.args.gain ≤ 1000 * UNIT = rw c.trillionths.ensures.value at c.trillionths.ensures.bound in
     let bound : unsigned_abs s ≤ 29 * (UNIT * 2 ^ 31) = c.requires.small c.loop-channel.channel in
-    rw (scaled-sum c.args.gain s c.from-factor.result gain small bound) (scaled-low c.args.gain s small bound)
-
-pub round_clip-sample-requires-clause-high : goal.round_clip-sample-requires-clause-high
-round_clip-sample-requires-clause-high c =
-    let s : ℤ = slice_index_or c.args.sums.now c.loop-channel.channel (pos 0) in
-    let gain : c.from-factor.result ≡ c.args.gain = c.from-factor.ensures ∙ search rules ∙ c.trillionths.ensures.value in
-    let small : unsigned_abs c.args.gain ≤ 1000 * UNIT = rw c.trillionths.ensures.value at c.trillionths.ensures.bound in
-    let bound : unsigned_abs s ≤ 29 * (UNIT * 2 ^ 31) = c.requires.small c.loop-channel.channel in
-    rw (scaled-sum c.args.gain s c.from-factor.result gain small bound) (scaled-high c.args.gain s small bound)
+    rw (scaled-sum c.args.gain s c.from-factor.result gain small bound) (record { positive = search rules; small_den = search rules; low = scaled-low c.args.gain s small bound; high = scaled-high c.args.gain s small bound })
 
 pub overflow_mul-factor : goal.overflow_mul-factor
 overflow_mul-factor c =

@@ -1,21 +1,11 @@
-use Rattle.std.proofs.Common.{◌≡◌, ◌≤◌, ◌*◌, drop}
-use Rattle.fx_frame_base.specs.Lists.{pieces}
-use Rattle.fx_frame_line.specs.Line.{pushed_all}
-use Rattle.fx_frame.specs.Tapped.{MakesBlock, clips_in_block}
+use Rattle.std.proofs.Common.{◌≡◌, ◌*◌}
+use Rattle.fx_tap_delays.specs.Tapping.{CountsClips}
+use Rattle.fx_tap_delays.proofs.Groups.{MadeFrames}
 use Rattle.fx_tap_delays.proofs.tapped.tap_by_frames.Given as goal
 
 abbrev pub invariant-frames : goal.invariant-frames
-invariant-frames g l =
-    let taps = g.T.Tapping.taps in
-    let m = l.tapping in
-    record {
-      at_is : l.at ≡ l._turn * taps.channels m;
-      done : MakesBlock taps m l.fn.line.items l._turn l.input l.output;
-      rest_unchanged : drop l.at l.output ≡ drop l.at l.fn.output;
-      counted : l.clips ≡ clips_in_block taps m l.fn.line.items l._turn l.input;
-      bound : l.clips ≤ l._turn * taps.max_clips m;
-      small : l.clips ≤ 16 * l._turn;
-      line : l.line.items ≡ pushed_all l.fn.line (pieces (taps.channels m) l._turn l.input);
-      line_capacity : l.line.capacity ≡ l.fn.line.capacity;
-      line_channels : l.line.channels ≡ l.fn.line.channels;
-    }
+invariant-frames g l = record {
+  at_is : l.at ≡ l._turn * g.T.Tapping.taps.channels l.tapping;
+  made : MadeFrames g.T.Tapping.taps l.tapping l.fn.line l._turn l.input l.fn.output l.output l.line;
+  clips : CountsClips g.T.Tapping.taps l.tapping l.fn.line.items l._turn l.input l.clips;
+}

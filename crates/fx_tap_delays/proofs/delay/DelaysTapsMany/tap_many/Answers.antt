@@ -7,7 +7,7 @@ use Rattle.fx_tap_delays.proofs.delay.DelaysTapsMany.tap_many.Goals as goal
 pub returns-then-all_are-clause-frames : goal.returns-then-all_are-clause-frames
 returns-then-all_are-clause-frames c =
     let all = rw (c.deref.ensures.value, c.self.view_is, c.capacity.ensures.capacity) at c.all_are.ensures in
-    even-all c.args.self.now c.args.line.now c.channels-channels.result c.args.count c.args.input.now c.delay_evenly.new.output (all c.if-all_are.true) c.capacity.ensures.line c.requires.channels c.channels-channels.ensures.value c.requires.input c.delay_evenly.ensures.frames
+    even-all c.args.self.now c.args.line.now c.args.count c.args.input.now c.delay_evenly.new.output (all c.if-all_are.true) c.capacity.ensures.line c.requires.channels c.requires.input c.channels-channels.result c.channels-channels.ensures.value c.delay_evenly.ensures.frames
 
 pub returns-then-all_are-clause-clips : goal.returns-then-all_are-clause-clips
 returns-then-all_are-clause-clips c = sym (even-clips c.args.self.now c.args.line.now.items (pieces (length c.args.self.now) c.args.count c.args.input.now))

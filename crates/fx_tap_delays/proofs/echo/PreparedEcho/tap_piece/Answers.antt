@@ -1,4 +1,5 @@
-use Rattle.std.proofs.Common.{◌≡◌, ◌≤◌, ◌*◌, ◌∙◌, arith, length, replicate, List, ℤ, pos}
+use Rattle.std.proofs.Common.{rules, ◌≡◌, ◌≤◌, ◌*◌, ◌∙◌, arith, length, replicate, List, ℤ, pos}
+use Rattle.std.proofs.lemmas.Grind.{common_steps}
 use Rattle.std.proofs.lemmas.List.{length-replicate, length-take-le}
 use Rattle.fx_frame_base.specs.Lists.{pieces}
 use Rattle.fx_frame_base.proofs.Pieces.{length-pieces}
@@ -11,8 +12,8 @@ use Rattle.fx_tap_delays.proofs.echo.PreparedEcho.tap_piece.Goals as goal
 pub add_piece-requires-clause-empty : goal.add_piece-requires-clause-empty
 add_piece-requires-clause-empty c = λ k. zeros-part (length c.args.frames.now) 256 k
 
-pub returns-clause-frames : goal.returns-clause-frames
-returns-clause-frames c =
+pub returns : goal.returns
+returns c =
     let a : EchoArguments = c.args.self.now in
     let w : Weights = record { weights = c.small.inside.weights; denominator = c.small.inside.denominator } in
     let sounds : SoundsAs a.gain_in a.gain_out a.taps w = rw (← c.small.view_is) at c.requires.sounds in
@@ -21,16 +22,8 @@ returns-clause-frames c =
     let many = length-pieces a.channels c.args.count c.args.frames.now in
     let free : length c.args.frames.now ≤ length (replicate 256 (pos 0)) = omega (arith, length-replicate 256 (pos 0), c.requires.frames, c.requires.free) in
     let long : length c.add_piece.new.sums ≡ c.args.count * a.channels = c.add_piece.auto.sums ∙ length-take-le (length c.args.frames.now) (replicate 256 (pos 0)) free ∙ c.requires.frames in
-    piece-frames a w sounds c.args.line.now.items coming c.args.count c.add_piece.new.sums many long value c.round_sums.new.out c.round_sums.ensures.samples
-
-pub returns-clause-clips : goal.returns-clause-clips
-returns-clause-clips c =
-    let a : EchoArguments = c.args.self.now in
-    let w : Weights = record { weights = c.small.inside.weights; denominator = c.small.inside.denominator } in
-    let sounds : SoundsAs a.gain_in a.gain_out a.taps w = rw (← c.small.view_is) at c.requires.sounds in
-    let value = rw (← c.small.view_is) at c.add_piece.ensures.value in
-    let coming : List (List ℤ) = pieces a.channels c.args.count c.args.frames.now in
-    let many = length-pieces a.channels c.args.count c.args.frames.now in
-    let free : length c.args.frames.now ≤ length (replicate 256 (pos 0)) = omega (arith, length-replicate 256 (pos 0), c.requires.frames, c.requires.free) in
-    let long : length c.add_piece.new.sums ≡ c.args.count * a.channels = c.add_piece.auto.sums ∙ length-take-le (length c.args.frames.now) (replicate 256 (pos 0)) free ∙ c.requires.frames in
-    piece-clips a w sounds c.args.line.now.items coming c.args.count c.add_piece.new.sums many long value c.round_sums.result c.round_sums.ensures.clips
+    record {
+      frames = piece-frames a w sounds c.args.line.now.items coming c.args.count c.add_piece.new.sums many long value c.round_sums.new.out c.round_sums.ensures.samples;
+      clips = piece-clips a w sounds c.args.line.now.items coming c.args.count c.add_piece.new.sums many long value c.round_sums.result c.round_sums.ensures.clips;
+      bound = first_of (search rules, grind (arith, common_steps));
+    }

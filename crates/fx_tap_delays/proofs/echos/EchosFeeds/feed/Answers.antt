@@ -2,7 +2,6 @@ use Rattle.std.proofs.Common.{rules, ◌≡◌, ◌+◌, ◌-◌, ◌*◌, ◌^�
 use Rattle.fx_frame_base.specs.Lists.{pieces}
 use Rattle.fx_tap_delays.proofs.EchosBlocks.{IsEchos-block, block-fed}
 use Rattle.fx_tap_delays.proofs.EchosGiven.{length-series_lines}
-use Rattle.fx_tap_delays.proofs.EchosLaws.{places-late}
 use Rattle.fx_frame_base.proofs.Flags.{none-of}
 use Rattle.fx_frame_base.proofs.Capacities.{free-grows}
 use Rattle.fx_frame.proofs.WholeFrames.{both-have, no-more}
@@ -58,7 +57,6 @@ returns c =
     let over : s.ended ≡ false = search rules in
     let size = many (goal.at.returns c).After-echo_many in
     let (read, free, limit) = frames (goal.at.returns c).After-min-count in
-    let zero : s.pending_clips ≡ 0 = is.idle (rw none refl) in
     let no_tail : s.tail ≡ 0 = is.not_ended over in
     let counted : s.given + 0 + s.tail ≡ s.taken + 0 = rw (none, over) at is.counted in
     let even : s.given ≡ s.taken = omega (arith, counted, no_tail) in
@@ -70,7 +68,7 @@ returns c =
     rw (← c.self-2.view_is)
     record {
       fed = rw (written_back s.lines.items c.echo_many.new.lines s.lines.len s.lines.ok.0 size)
-          (block-fed _ c.echo_many.new.lines c.min-count.result c.echo_many.result c.args.input.now c.echo_many.new.output none zero no_tail over even (places-late _ is) (given _ suits refl (sym is.as_many)) (clips _ suits refl (sym is.as_many)) lines);
+          (block-fed _ c.echo_many.new.lines is none over c.min-count.result c.echo_many.result c.args.input.now c.echo_many.new.output (given _ suits refl (sym is.as_many)) (clips _ suits refl (sym is.as_many)) lines);
       read = read;
       written = omega (arith, free, c.echo_many.auto.output);
       rest_unchanged = c.echo_many.ensures.rest_unchanged;

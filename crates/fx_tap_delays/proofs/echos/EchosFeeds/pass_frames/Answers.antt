@@ -1,40 +1,31 @@
-use Rattle.std.proofs.Common.{◌≡◌, ◌+◌, ◌∙◌, ap, false, length, refl, arith, append-nil, None}
+use Rattle.std.proofs.Common.{◌≡◌, ◌+◌, ◌≤◌, ◌^◌, ◌∙◌, ap, false, length, arith, append-nil, None}
 use Rattle.fx_frame_base.specs.Lists.{pieces}
-use Rattle.fx_tap_delays.specs.EchosState.{EchosState, IsEchos}
+use Rattle.fx_tap_delays.specs.EchosState.{IsEchos}
 use Rattle.fx_frame.proofs.DryLaws.{dry-pending}
-use Rattle.fx_tap_delays.proofs.EchosBlocks.{IsEchos-block, block-through}
+use Rattle.fx_tap_delays.proofs.EchosBlocks.{IsEchos-block, block-through, passed_echos}
 use Rattle.fx_tap_delays.proofs.EchosGiven.{length-series_lines}
-use Rattle.fx_tap_delays.proofs.EchosLaws.{frames-late, places-late}
+use Rattle.fx_tap_delays.proofs.EchosLaws.{frames-late}
 use Rattle.fx_frame_base.proofs.Puts.{written_back}
 use Rattle.fx_tap_delays.proofs.echos.EchosFeeds.pass_frames.Goals.{After-echo_frames-clips}
 use Rattle.fx_tap_delays.proofs.echos.EchosFeeds.pass_frames.Goals as goal
 
--- the stage that passes frames on, and the lines that come back
-abbrev stage : After-echo_frames-clips → EchosState
-stage c = record {
-  arguments = record { channels = c.self.inside.channels; gain_in = c.self.inside.gain_in; gain_out = c.self.inside.gain_out; taps = c.self.inside.taps.items };
-  lines = c.self.inside.lines.items;
-  pending = c.self.inside.pending;
-  pending_clips = c.self.inside.pending_clips;
-  tail = c.self.inside.tail;
-  taken = c.self.inside.taken;
-  given = c.self.inside.given;
-  clips = c.self.inside.clips;
-  ended = c.self.inside.ended;
-}
+none : (c : After-echo_frames-clips) → c.self.inside.pending ≡ None
+none c = dry-pending c.self.inside.pending c.self.inside.tail (rw (← c.self.view_is) at c.requires.dry)
+
+running : (c : After-echo_frames-clips) → c.self.inside.ended ≡ false
+running c = rw (← c.self.view_is) at c.requires.not_ended
+
+limit : (c : After-echo_frames-clips) → c.self.inside.taken + c.args.count ≤ 2 ^ 56
+limit c = rw (← c.self.view_is) at c.requires.below_limit
 
 many : (c : After-echo_frames-clips) → length c.echo_frames-clips.new.lines ≡ length c.self.inside.lines.items
 many c = ap length (rw c.deref_mut.ensures.value at c.echo_frames-clips.ensures.lines) ∙ length-series_lines c.self.inside.channels c.self.inside.lines.items (pieces c.self.inside.channels c.args.count c.args.samples.now)
 
-block : (c : After-echo_frames-clips) → IsEchos (record (stage c) { lines = c.echo_frames-clips.new.lines; taken = c.self.inside.taken + c.args.count; given = c.self.inside.given + c.args.count; clips = c.self.inside.clips + c.echo_frames-clips.result })
+block : (c : After-echo_frames-clips) → IsEchos (passed_echos c.args.self.now c.echo_frames-clips.new.lines c.args.count c.echo_frames-clips.result)
 block c =
-    let s = c.self.inside in
     let is = c.self.invariant.0 in
-    let none : s.pending ≡ None = dry-pending s.pending s.tail (rw (← c.self.view_is) at c.requires.dry) in
-    let over : s.ended ≡ false = rw (← c.self.view_is) at c.requires.not_ended in
-    let limit = rw (← c.self.view_is) at c.requires.below_limit in
     let sound = rw (c.deref_mut.ensures.value, c.deref.ensures.value) at c.echo_frames-clips.ensures.sound in
-    IsEchos-block (stage c) c.echo_frames-clips.new.lines c.args.count c.echo_frames-clips.result is none over limit (many c) (sound _ is.lines) c.echo_frames-clips.ensures.bound
+    rw (← c.self.view_is) (IsEchos-block _ c.echo_frames-clips.new.lines c.args.count c.echo_frames-clips.result is (none c) (running c) (limit c) (many c) (sound _ is.lines) c.echo_frames-clips.ensures.bound)
 
 pub echo_frames-clips-requires-clause-lines : goal.echo_frames-clips-requires-clause-lines
 echo_frames-clips-requires-clause-lines c = rw (c.deref_mut.ensures.value, c.deref.ensures.value) (_, c.self.invariant.0.lines)
@@ -49,54 +40,38 @@ echo_frames-clips-requires-clause-samples c = rw (← c.self.view_is) at c.requi
 
 pub overflow_add-self : goal.overflow_add-self
 overflow_add-self c =
-    let s = c.self.inside in
-    let none : s.pending ≡ None = dry-pending s.pending s.tail (rw (← c.self.view_is) at c.requires.dry) in
-    let over : s.ended ≡ false = rw (← c.self.view_is) at c.requires.not_ended in
-    let counted = rw (none, over) at c.self.invariant.0.counted in
-    let limit = rw (← c.self.view_is) at c.requires.below_limit in
-    omega (arith, counted, limit, c.self.invariant.0.clips_max, c.self.invariant.0.bound, c.echo_frames-clips.ensures.bound)
+    let after = (goal.at.overflow_add-self c).After-echo_frames-clips in
+    let counted = rw (none after, running after) at c.self.invariant.0.counted in
+    omega (arith, counted, limit after, c.self.invariant.0.clips_max, c.self.invariant.0.bound, c.echo_frames-clips.ensures.bound)
 
 pub overflow_add-self-2 : goal.overflow_add-self-2
-overflow_add-self-2 c =
-    let limit = rw (← c.self.view_is) at c.requires.below_limit in
-    omega (arith, limit)
+overflow_add-self-2 c = omega (arith, limit (goal.at.overflow_add-self-2 c).After-echo_frames-clips)
 
 pub overflow_add-self-3 : goal.overflow_add-self-3
 overflow_add-self-3 c =
-    let s = c.self.inside in
-    let none : s.pending ≡ None = dry-pending s.pending s.tail (rw (← c.self.view_is) at c.requires.dry) in
-    let over : s.ended ≡ false = rw (← c.self.view_is) at c.requires.not_ended in
-    let counted = rw (none, over) at c.self.invariant.0.counted in
-    let limit = rw (← c.self.view_is) at c.requires.below_limit in
-    omega (arith, counted, limit)
+    let after = (goal.at.overflow_add-self-3 c).After-echo_frames-clips in
+    let counted = rw (none after, running after) at c.self.invariant.0.counted in
+    omega (arith, counted, limit after)
 
 pub invariant_of-self : goal.invariant_of-self
 invariant_of-self c =
     let s = c.self.inside in
     let after = (goal.at.invariant_of-self c).After-echo_frames-clips in
-    rw (written_back s.lines.items c.echo_frames-clips.new.lines s.lines.len s.lines.ok.0 (many after)) (block after, c.self.invariant.1)
+    rw (written_back s.lines.items c.echo_frames-clips.new.lines s.lines.len s.lines.ok.0 (many after)) ((rw (← c.self.view_is) at (block after)), c.self.invariant.1)
 
 pub returns-clause-through : goal.returns-clause-through
 returns-clause-through c =
     let s = c.self.inside in
-    let is = c.self.invariant.0 in
     let after = (goal.at.returns-clause-through c).After-echo_frames-clips in
-    let none : s.pending ≡ None = dry-pending s.pending s.tail (rw (← c.self.view_is) at c.requires.dry) in
-    let over : s.ended ≡ false = rw (← c.self.view_is) at c.requires.not_ended in
-    let zero : s.pending_clips ≡ 0 = is.idle (rw none refl) in
-    let no_tail : s.tail ≡ 0 = is.not_ended over in
-    let counted : s.given + 0 + s.tail ≡ s.taken + 0 = rw (none, over) at is.counted in
-    let even : s.given ≡ s.taken = omega (arith, counted, no_tail) in
     let lines = rw c.deref_mut.ensures.value at c.echo_frames-clips.ensures.lines in
     let frames = rw (c.deref_mut.ensures.value, c.deref.ensures.value) at c.echo_frames-clips.ensures.frames in
     let clips = rw (c.deref_mut.ensures.value, c.deref.ensures.value) at c.echo_frames-clips.ensures.clips in
     rw (← c.self.view_is, written_back s.lines.items c.echo_frames-clips.new.lines s.lines.len s.lines.ok.0 (many after))
-    (block-through (stage after) c.echo_frames-clips.new.lines c.args.count c.echo_frames-clips.result c.args.samples.now c.echo_frames-clips.new.samples none zero no_tail over even (places-late (stage after) is) frames clips lines)
+    (block-through _ c.echo_frames-clips.new.lines c.self.invariant.0 (none after) (running after) c.args.count c.echo_frames-clips.result c.args.samples.now c.echo_frames-clips.new.samples frames clips lines)
 
 pub returns-clause-lined : goal.returns-clause-lined
 returns-clause-lined c =
     let s = c.self.inside in
     let after = (goal.at.returns-clause-lined c).After-echo_frames-clips in
-    let none : s.pending ≡ None = dry-pending s.pending s.tail (rw (← c.self.view_is) at c.requires.dry) in
-    let within = frames-late _ (block after) in
-    rw (written_back s.lines.items c.echo_frames-clips.new.lines s.lines.len s.lines.ok.0 (many after), none) (simp append-nil (omega (arith, within)))
+    let within = frames-late _ (rw (← c.self.view_is) at (block after)) in
+    rw (written_back s.lines.items c.echo_frames-clips.new.lines s.lines.len s.lines.ok.0 (many after), none after) (simp append-nil (omega (arith, within)))

@@ -1,5 +1,4 @@
-use Rattle.std.proofs.Common.{ap, ◌∙◌, arith}
-use Rattle.std.proofs.lemmas.Grind.{common_steps}
+use Rattle.std.proofs.Common.{ap, ◌∙◌}
 use Rattle.fx_frame_base.specs.Frame.{silence}
 use Rattle.fx_frame.proofs.TapLaws.{Gave-tail}
 use Rattle.fx_tap_delays.proofs.tapped.Tapped.give_of_tail.Goals as goal
@@ -9,9 +8,3 @@ returns g c =
     rw (← c.self.view_is)
     (Gave-tail g.T.Tapping.taps g.met.T.Tapping.near _ _ c.silence-silent_frame.result c.tap-made.result.0 _ c.self.invariant (rw (← c.self.view_is) at c.requires.pending) (rw (← c.self.view_is) at c.requires.tail) (c.silence-silent_frame.ensures ∙ ap silence c.channels.ensures.value)
     c.tap-made.ensures.frame c.tap-made.ensures.clips c.tap-made.ensures.channels c.push.ensures.items c.push.ensures.capacity)
-
-pub push-requires : goal.push-requires
-push-requires g c = grind (arith, common_steps)
-
-pub invariant_of-self : goal.invariant_of-self
-invariant_of-self g c = grind (arith, common_steps)

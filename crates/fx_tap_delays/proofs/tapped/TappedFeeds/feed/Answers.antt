@@ -6,8 +6,8 @@ use Rattle.fx_frame_base.proofs.Capacities.{free-grows}
 use Rattle.fx_frame.proofs.TapBlocks.{IsTapState-block, block-fed}
 use Rattle.fx_frame.proofs.WholeFrames.{both-have, no-more}
 use Rattle.fx_tap_delays.proofs.tapped.TappedFeeds.feed.Given as given
-use Rattle.fx_tap_delays.proofs.tapped.TappedFeeds.feed.Goals as goal
 use Rattle.fx_tap_delays.proofs.tapped.TappedFeeds.feed.Goals.{After-min-count}
+use Rattle.fx_tap_delays.proofs.tapped.TappedFeeds.feed.Goals as goal
 
 -- the input has so many frames, the output has room for them, and the effect may take them
 frames : (g : given.Over) (c : After-min-count g) →
@@ -52,22 +52,10 @@ nonzero_div-input g c = omega (arith, c.channels-channels.ensures.some.0)
 pub nonzero_div-output : goal.nonzero_div-output
 nonzero_div-output g c = omega (arith, c.channels-channels.ensures.some.0)
 
-pub tap_many-requires-clause-channels : goal.tap_many-requires-clause-channels
-tap_many-requires-clause-channels g c = c.self-2.invariant.channels
-
-pub tap_many-requires-clause-capacity : goal.tap_many-requires-clause-capacity
-tap_many-requires-clause-capacity g c = c.self-2.invariant.capacity
-
-pub tap_many-requires-clause-bound : goal.tap_many-requires-clause-bound
-tap_many-requires-clause-bound g c =
-    let (read, free, limit) = frames g (goal.at.tap_many-requires-clause-bound g c).After-min-count in
-    omega (arith, limit)
-
-pub tap_many-requires-clause-input : goal.tap_many-requires-clause-input
-tap_many-requires-clause-input g c = (frames g (goal.at.tap_many-requires-clause-input g c).After-min-count).0
-
-pub tap_many-requires-clause-output : goal.tap_many-requires-clause-output
-tap_many-requires-clause-output g c = (frames g (goal.at.tap_many-requires-clause-output g c).After-min-count).1
+pub tap_many-requires : goal.tap_many-requires
+tap_many-requires g c =
+    let (read, free, limit) = frames g (goal.at.tap_many-requires g c).After-min-count in
+    record { channels = c.self-2.invariant.channels; capacity = c.self-2.invariant.capacity; bound = omega (arith, limit); input = read; output = free }
 
 pub overflow_add-self-2 : goal.overflow_add-self-2
 overflow_add-self-2 g c =
