@@ -33,13 +33,6 @@ sent-all first now out all s empty =
     subst P (take_all out.written all whole) s.taken
 
 module _ {R : Type 0} (asked : R → R → Moment → Type 0) where
-  -- no read was made yet
-  pub AsksOn-none : (s : Held R) (want : ℕ) (now : Option (List ℕ)) (out : Pending) → AsksOn asked s s want now out (λ more. length s.bytes ≡ length s.bytes + more)
-  AsksOn-none s want now out = λ due first start came all sent same waited.
-      let none : came ≡ came + 0 = omega arith in
-      let P : ℕ → Type 0 = λ n. Waited asked due first start n s.short s.reader in
-      (0, subst P none waited, omega arith)
-
   -- one read more, while fewer than the wanted bytes are held
   pub AsksOn-turn : (old mid new : Held R) (want : ℕ) (now mid_now new_now : Option (List ℕ)) (out mid_out new_out : Pending)
       → AsksOn asked old mid want now out (λ more. length mid.bytes ≡ length old.bytes + more) → length mid.bytes < want
