@@ -1,4 +1,4 @@
-use Rattle.std.proofs.Common.{rules, ◌≡◌, ℕ, ◌+◌, ◌*◌, ◌≤◌, ◌∙◌, ◌++◌, List, [], MatchBool, Some, length, drop, not, refl, subst, sym, ap, arith, false, true}
+use Rattle.std.proofs.Common.{rules, ◌≡◌, ℕ, ◌+◌, ◌*◌, ◌≤◌, ◌∙◌, ◌++◌, List, [], MatchBool, Option, Some, ◌^◌, length, drop, not, refl, subst, sym, ap, arith, false, true}
 use Rattle.fx_frame_base.specs.Io.{saturated}
 use Rattle.fx_sound.specs.Runs.{RanFrames}
 use Rattle.fx_sound.proofs.RunLaws.{Ran-start, Ran-turn, Ran-whole, Takes-none, Ran-rest_unchanged, Ran-failed}
@@ -7,10 +7,11 @@ use Rattle.fx_sound.specs.Sound.{Reading, size_of, within_sound}
 use Rattle.fx_sound.specs.Source.{to_come}
 use Rattle.std.proofs.lemmas.Grind.{common_steps}
 use Rattle.std.proofs.lemmas.Result.{err_from_is_err_and}
-use Rattle.fx_chain_run.specs.Run.{RanToEnd, sound_frames, is_write_failed, unread_after}
+use Rattle.fx_chain_run.specs.Run.{Flowed, RanToEnd, sound_frames, is_write_failed, unread_after}
 use Rattle.fx_chain_run.specs.Pump.{Pumped, Start}
 use Rattle.fx_chain_run.specs.Pumping.{WaitedForDue}
 use Rattle.fx_sound.specs.Known.{IfKnown}
+use Rattle.fx_sound.specs.Output.{bytes_put}
 use Rattle.fx_frame_base.specs.Frame.{Samples}
 use Rattle.fx_frame_base.specs.declared.stage.TheConstants.{MAX_FRAMES}
 use Rattle.fx_chain_flow.specs.Steps.{rest_of}
@@ -40,13 +41,15 @@ asked g c =
     let waits = Waits-asked g.S.Stage.acts g.R.ReadBeside.reads g.R.ReadBeside.asked first _ c.loop-turn.source _ _ _ _ _ c.loop-turn.invariant.pumped due c.next_frame.new.source _ c.next_frame.ensures.asked c.loop-turn.invariant.waited in
     WaitsMore-until g.S.Stage.acts g.R.ReadBeside.reads g.R.ReadBeside.asked first _ c.next_frame.new.source _ waits
 
+-- the frames that were read, the end if it was met, and what is to come
+abbrev ReadTo : Reading → Reading → Option (List ℕ) → Option (List ℕ) → Type 0
+ReadTo p q known left =
+    IfKnown known (λ bytes. q.frames * size_of p ≤ length (within_sound p.left bytes))
+    × MatchBool q.over (IfKnown known (λ bytes. RanToEnd p bytes q.frames q.missing q.stray)) ((q.missing ≡ 0) × (q.stray ≡ 0))
+    × IfKnown known (λ bytes. left ≡ Some (unread_after p (not q.over) q.frames bytes))
+
 -- one frame more was read
-read_frame : (g : given.Over) (c : In-Ok-Some g) →
-    let p = c.args.progress.now in
-    let q = c.next_frame.new.progress in
-    IfKnown (to_come g.R.ReadBeside.reads.rest c.args.source.now) (λ bytes. q.frames * size_of p ≤ length (within_sound p.left bytes))
-    × MatchBool q.over (IfKnown (to_come g.R.ReadBeside.reads.rest c.args.source.now) (λ bytes. RanToEnd p bytes q.frames q.missing q.stray)) ((q.missing ≡ 0) × (q.stray ≡ 0))
-    × IfKnown (to_come g.R.ReadBeside.reads.rest c.args.source.now) (λ bytes. to_come g.R.ReadBeside.reads.rest c.next_frame.new.source ≡ Some (unread_after p (not q.over) q.frames bytes))
+read_frame : (g : given.Over) (c : In-Ok-Some g) → ReadTo c.args.progress.now c.next_frame.new.progress (to_come g.R.ReadBeside.reads.rest c.args.source.now) (to_come g.R.ReadBeside.reads.rest c.next_frame.new.source)
 read_frame g c =
     let p = c.args.progress.now in
     let q = c.next_frame.new.progress in
@@ -63,12 +66,7 @@ read_frame g c =
     )
 
 -- the end of the sound was read
-read_end : (g : given.Over) (c : In-Ok-None g) →
-    let p = c.args.progress.now in
-    let q = c.next_frame.new.progress in
-    IfKnown (to_come g.R.ReadBeside.reads.rest c.args.source.now) (λ bytes. q.frames * size_of p ≤ length (within_sound p.left bytes))
-    × MatchBool q.over (IfKnown (to_come g.R.ReadBeside.reads.rest c.args.source.now) (λ bytes. RanToEnd p bytes q.frames q.missing q.stray)) ((q.missing ≡ 0) × (q.stray ≡ 0))
-    × IfKnown (to_come g.R.ReadBeside.reads.rest c.args.source.now) (λ bytes. to_come g.R.ReadBeside.reads.rest c.next_frame.new.source ≡ Some (unread_after p (not q.over) q.frames bytes))
+read_end : (g : given.Over) (c : In-Ok-None g) → ReadTo c.args.progress.now c.next_frame.new.progress (to_come g.R.ReadBeside.reads.rest c.args.source.now) (to_come g.R.ReadBeside.reads.rest c.next_frame.new.source)
 read_end g c =
     let next = rw c.in-Ok-None.field-0-is at c.in-Ok-None.ensures in
     let p = c.args.progress.now in
@@ -95,6 +93,17 @@ turned g c =
     let turned = Pumped-turn g.S.Stage.acts g.R.ReadBeside.reads _ c.loop-turn.flow c.take.new.self c.drain.new.flow c.loop-turn.source c.next_frame.new.source c.loop-turn.progress c.next_frame.new.progress
     _ _ _ _ _ _ _ _ old next.frame.counted next.maximum next.frame.value next.frame.delivered next.faults.reads (sym (c.is_spent.ensures.enough old.hungry) ∙ c.if-is_spent.false) c.take.ensures.value drained.drained drained.waits drained.free drained.bound in
     rw drained.coding turned
+
+-- what was given before a fault of the source was sent
+sent_before : (g : given.Over) (c : After-next_frame g) → c.next_frame.new.progress ≡ c.loop-turn.progress →
+    IfKnown (to_come g.R.ReadBeside.reads.rest c.args.source.now) (λ bytes. Flowed g.S.Stage.acts c.args.flow.now c.loop-turn.flow c.args.frame_writer.now.coding (sound_frames c.args.progress.now c.next_frame.new.progress.frames bytes) c.loop-turn.frame_writer.clips
+    (g.W.ByteOut.writes.taken c.args.writer.now) (g.W.ByteOut.writes.taken c.next_frame.new.writer) c.next_frame.new.output c.args.head.now)
+    × (bytes_put c.next_frame.new.output ≤ 2 ^ 63)
+sent_before g c same =
+    let sent = c.next_frame.ensures.sent in
+    let old = Pumped-sent g.S.Stage.acts g.R.ReadBeside.reads _ _ _ _ _ _ _ _ _ _ c.loop-turn.invariant.pumped sent.sends sent.count in
+    let bound = given_by-bound g.S.Stage.acts g.met.S.Stage.rises c.args.flow.now c.loop-turn.flow old.stay c.requires.fits c.stages-stages.ensures.maximum c.stages-stages.ensures.sound.bound in
+    (λ bytes known. rw same (old.flowed bytes known), omega (arith, bound, old.free))
 
 pub returns-in_err-push-clause-sent : goal.returns-in_err-push-clause-sent
 returns-in_err-push-clause-sent g c = record {
@@ -265,34 +274,14 @@ returns-in-Err-TooLong-clause-taken g c =
     first_of (search (rules, too_long), grind (arith, common_steps, too_long))
 
 pub returns-in-Err-ReadFailed-clause-sent : goal.returns-in-Err-ReadFailed-clause-sent
-returns-in-Err-ReadFailed-clause-sent g c = record {
-  sent =
-      λ _ bytes known.
-      let next = rw c.in-Err-ReadFailed.field-0-is at c.in-Err-ReadFailed.ensures in
-      let old = Pumped-sent g.S.Stage.acts g.R.ReadBeside.reads _ _ _ _ _ _ _ _ _ _ c.loop-turn.invariant.pumped next.sent.sends next.sent.count in
-      rw next.kept.progress (old.flowed bytes known);
-  write_failed = first_of (search rules, grind (arith, common_steps));
-  free =
-      λ _.
-      let old = Pumped-sent g.S.Stage.acts g.R.ReadBeside.reads _ _ _ _ _ _ _ _ _ _ c.loop-turn.invariant.pumped c.in-Err-ReadFailed.ensures.sent.sends c.in-Err-ReadFailed.ensures.sent.count in
-      let bound = given_by-bound g.S.Stage.acts g.met.S.Stage.rises c.args.flow.now c.loop-turn.flow old.stay c.requires.fits c.stages-stages.ensures.maximum c.stages-stages.ensures.sound.bound in
-      omega (arith, bound, old.free);
-}
+returns-in-Err-ReadFailed-clause-sent g c =
+    let (flowed, free) = sent_before g (goal.at.returns-in-Err-ReadFailed-clause-sent g c).After-next_frame (rw c.in-Err-ReadFailed.field-0-is at c.in-Err-ReadFailed.ensures).kept.progress in
+    record { sent = λ _. flowed; write_failed = first_of (search rules, grind (arith, common_steps)); free = λ _. free }
 
 pub returns-in-Err-TooLong-clause-sent : goal.returns-in-Err-TooLong-clause-sent
-returns-in-Err-TooLong-clause-sent g c = record {
-  sent =
-      λ _ bytes known.
-      let next = rw c.in-Err-TooLong.field-0-is at c.in-Err-TooLong.ensures in
-      let old = Pumped-sent g.S.Stage.acts g.R.ReadBeside.reads _ _ _ _ _ _ _ _ _ _ c.loop-turn.invariant.pumped next.sent.sends next.sent.count in
-      rw next.kept.progress (old.flowed bytes known);
-  write_failed = first_of (search rules, grind (arith, common_steps));
-  free =
-      λ _.
-      let old = Pumped-sent g.S.Stage.acts g.R.ReadBeside.reads _ _ _ _ _ _ _ _ _ _ c.loop-turn.invariant.pumped c.in-Err-TooLong.ensures.sent.sends c.in-Err-TooLong.ensures.sent.count in
-      let bound = given_by-bound g.S.Stage.acts g.met.S.Stage.rises c.args.flow.now c.loop-turn.flow old.stay c.requires.fits c.stages-stages.ensures.maximum c.stages-stages.ensures.sound.bound in
-      omega (arith, bound, old.free);
-}
+returns-in-Err-TooLong-clause-sent g c =
+    let (flowed, free) = sent_before g (goal.at.returns-in-Err-TooLong-clause-sent g c).After-next_frame (rw c.in-Err-TooLong.field-0-is at c.in-Err-TooLong.ensures).kept.progress in
+    record { sent = λ _. flowed; write_failed = first_of (search rules, grind (arith, common_steps)); free = λ _. free }
 
 pub returns-then-is_spent-clause-taken : goal.returns-then-is_spent-clause-taken
 returns-then-is_spent-clause-taken g c =
