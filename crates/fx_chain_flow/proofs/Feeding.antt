@@ -1,6 +1,5 @@
 -- A flow that is fed, frame by frame.
-use Rattle.std.proofs.Common.{◌≡◌, ◌+◌, ◌-◌, ◌*◌, ◌<◌, ◌≤◌, ℕ, zero, suc, true, false, List, [], ◌∷◌, ◌++◌, length, take, drop, map, refl, sym, ap, ◌∙◌, arith, add-one, length-append, append_assoc, append-nil, inl, inr, Option, Some, None}
-use Rattle.std.specs.Prelude.{ℤ}
+use Rattle.std.proofs.Common.{◌≡◌, ◌+◌, ◌-◌, ◌*◌, ◌<◌, ◌≤◌, ℕ, zero, suc, true, false, List, [], ◌∷◌, ◌++◌, length, take, drop, map, refl, sym, ap, ◌∙◌, arith, add-one, length-append, append_assoc, append-nil, inl, inr, Option, Some, None, ℤ}
 use Rattle.std.proofs.lemmas.List.{drop-drop, drop_at, length-drop, length-map, length-take-le, take_at}
 use Rattle.std.proofs.Math.Nat.{add-mul, mul-le-mul_right, suc-mul}
 use Rattle.fx_frame_base.specs.Frame.{Samples}
@@ -279,12 +278,11 @@ module _ {S R : Type 0} (acts : Acts S R) (first : Parts S) (input start : List 
   Turned-gave-last f f' frame out out' read written count number t moved sides free put =
       record { earlier = pieces outs number out; frame = frame; before = f; all = pieces-put outs number written out frame out' t.written_is sides free put; fed = t.fed; gave = moved }
 
-  -- many frames went through the stages, and some came out
-  Turned-run : (f f' : Parts S) (out out' new : List ℤ) (read written count number n k : ℕ)
-      → Turned f out read written count number → f.ended ≡ false → FlowFed acts f (pieces first.channels n (drop read input)) (pieces outs k new) f' → FlowGave acts f (pieces first.channels n (drop read input)) (pieces outs k new) f' → 1 ≤ first.channels → n * first.channels ≤ length (drop read input)
-      → k * outs ≤ length new → k ≤ k * outs → drop (k * outs) new ≡ drop (k * outs) (drop written out) → length new ≡ length (drop written out) → out' ≡ take written out ++ new
-      → Turned f' out' (read + n * first.channels) (written + k * outs) (count + n) (number + k)
-  Turned-run f f' out out' new read written count number n k t going fed gave some free fits_out small rest_unchanged same put =
+  -- the pieces of the input and the output after many frames
+  pieces-run : (f : Parts S) (out out' new : List ℤ) (read written count number n k : ℕ) → Turned f out read written count number → out' ≡ take written out ++ new
+      → (pieces first.channels (count + n) input ≡ pieces first.channels count input ++ pieces first.channels n (drop read input))
+      × (pieces outs (number + k) out' ≡ pieces outs number out ++ pieces outs k new) × (drop (number * outs) out' ≡ new)
+  pieces-run f out out' new read written count number n k t put =
       let front : length (take written out) ≡ number * outs = length-take-le written out t.written_in ∙ t.written_is in
       let rest : drop (number * outs) out' ≡ new = rw put (drop_at (take written out) new (number * outs) front) in
       let long : length out' ≡ length (take written out) + length new = rw put (length-append (take written out) new) in
@@ -293,6 +291,15 @@ module _ {S R : Type 0} (acts : Acts S R) (first : Parts S) (input start : List 
       pieces-same outs number out' out (omega (arith, front, long)) (omega (arith, t.written_is, t.written_in)) (kept ∙ ap (λ m. take m out) t.written_is) in
       let more : pieces first.channels (count + n) input ≡ pieces first.channels count input ++ pieces first.channels n (drop read input) = pieces-split first.channels count n input ∙ ap (λ m. pieces first.channels count input ++ pieces first.channels n (drop m input)) (sym t.read_is) in
       let next : pieces outs (number + k) out' ≡ pieces outs number out ++ pieces outs k new = pieces-split outs number k out' ∙ ap (λ l. pieces outs number out' ++ pieces outs k l) rest ∙ ap (λ ps. ps ++ pieces outs k new) before in
+      (more, next, rest)
+
+  -- many frames went through the stages, and some came out
+  Turned-run : (f f' : Parts S) (out out' new : List ℤ) (read written count number n k : ℕ)
+      → Turned f out read written count number → f.ended ≡ false → FlowFed acts f (pieces first.channels n (drop read input)) (pieces outs k new) f' → FlowGave acts f (pieces first.channels n (drop read input)) (pieces outs k new) f' → 1 ≤ first.channels → n * first.channels ≤ length (drop read input)
+      → k * outs ≤ length new → k ≤ k * outs → drop (k * outs) new ≡ drop (k * outs) (drop written out) → length new ≡ length (drop written out) → out' ≡ take written out ++ new
+      → Turned f' out' (read + n * first.channels) (written + k * outs) (count + n) (number + k)
+  Turned-run f f' out out' new read written count number n k t going fed gave some free fits_out small rest_unchanged same put =
+      let (more, next, rest) = pieces-run f out out' new read written count number n k t put in
       let left : length (drop read input) ≡ length input - read = length-drop read input in
       let over : length (drop written out) ≡ length out - written = length-drop written out in
       let cut : drop (written + k * outs) out' ≡ drop (k * outs) new = sym (drop-drop (k * outs) written out') ∙ ap (drop (k * outs)) (ap (λ m. drop m out') t.written_is ∙ rest) in
@@ -304,7 +311,7 @@ module _ {S R : Type 0} (acts : Acts S R) (first : Parts S) (input start : List 
         read_in = let h = t.read_in in omega arith;
         bound = let h = t.bound in omega arith;
         written_is = rw t.written_is (sym (add-mul number k outs));
-        written_in = let h = t.written_in in let i : length (take written out) ≡ written = length-take-le written out t.written_in in omega arith;
+        written_in = let i : length (take written out) ≡ written = length-take-le written out t.written_in in let long = ap length put ∙ length-append (take written out) new in omega (arith, t.written_in, i, long);
         small = let h = t.small in omega arith;
         rest_unchanged = cut ∙ rest_unchanged ∙ ap (drop (k * outs)) t.rest_unchanged ∙ drop-drop (k * outs) written start;
       }
@@ -322,14 +329,7 @@ module _ {S R : Type 0} (acts : Acts S R) (first : Parts S) (input start : List 
       → Turned f out read written count number → GaveLast acts f (pieces ins n (drop read input)) (pieces os k new) f' → out' ≡ take written out ++ new
       → GaveLast acts first (pieces first.channels (count + n) input) (pieces outs (number + k) out') f'
   Turned-ran-last ins os e o f f' out out' new read written count number n k t last put =
-      let front : length (take written out) ≡ number * outs = length-take-le written out t.written_in ∙ t.written_is in
-      let rest : drop (number * outs) out' ≡ new = rw put (drop_at (take written out) new (number * outs) front) in
-      let long : length out' ≡ length (take written out) + length new = rw put (length-append (take written out) new) in
-      let kept : take (number * outs) out' ≡ take written out = rw put (take_at (take written out) new (number * outs) front) in
-      let before : pieces outs number out' ≡ pieces outs number out =
-      pieces-same outs number out' out (omega (arith, front, long)) (omega (arith, t.written_is, t.written_in)) (kept ∙ ap (λ m. take m out) t.written_is) in
-      let more : pieces first.channels (count + n) input ≡ pieces first.channels count input ++ pieces first.channels n (drop read input) = pieces-split first.channels count n input ∙ ap (λ m. pieces first.channels count input ++ pieces first.channels n (drop m input)) (sym t.read_is) in
-      let next : pieces outs (number + k) out' ≡ pieces outs number out ++ pieces outs k new = pieces-split outs number k out' ∙ ap (λ l. pieces outs number out' ++ pieces outs k l) rest ∙ ap (λ ps. ps ++ pieces outs k new) before in
+      let (more, next, rest) = pieces-run f out out' new read written count number n k t put in
       rw (more, next) (GaveLast-then acts first f f' _ _ _ _ t.fed (rw (e, o) at last))
 
   -- the calls were made in order, up to a frame that was let out

@@ -1,7 +1,6 @@
 -- A flow of one stage, fed as that stage.
-use Rattle.std.proofs.Common.{◌≡◌, ◌+◌, ◌-◌, ◌*◌, ◌<◌, ◌≤◌, ℕ, zero, suc, Bool, true, false, List, [], ◌∷◌, ◌++◌, length, refl, sym, ap, ◌∙◌, arith, length-append, append_assoc, append-nil, inl, inr, Some, None, subst, ◌||◌}
+use Rattle.std.proofs.Common.{◌≡◌, ◌+◌, ◌-◌, ◌*◌, ◌<◌, ◌≤◌, ℕ, zero, suc, Bool, true, false, List, [], ◌∷◌, ◌++◌, length, refl, sym, ap, ◌∙◌, arith, length-append, append_assoc, append-nil, inl, inr, Some, None, subst, ◌||◌, ℤ}
 use Rattle.std.proofs.lemmas.Bool.{false_from_ne_true}
-use Rattle.std.specs.Prelude.{ℤ}
 use Rattle.std.proofs.lemmas.List.{length-map, map-append}
 use Rattle.fx_frame_base.specs.Feed.{Fed, GaveNext, IsHeld, TookNext, TookWithinSpace, nothing, taken, given}
 use Rattle.fx_frame_base.specs.Frame.{Samples}

@@ -1,6 +1,5 @@
 -- Frames that the first stage of a flow took without giving any, as a run of the flow.
-use Rattle.std.proofs.Common.{ℕ, zero, suc, ◌+◌, ◌*◌, ◌≤◌, ◌≡◌, true, false, List, [], ◌∷◌, length, map, take, refl, sym, ap, arith, inl, None, subst}
-use Rattle.std.specs.Prelude.{ℤ, FitsSigned}
+use Rattle.std.proofs.Common.{ℕ, zero, suc, ◌+◌, ◌*◌, ◌≤◌, ◌≡◌, true, false, List, [], ◌∷◌, length, map, take, refl, sym, ap, arith, inl, None, subst, ℤ, FitsSigned}
 use Rattle.std.specs.Int.{w32}
 use Rattle.std.specs.List.{All}
 use Rattle.std.proofs.Math.Nat.{mul-le-mul_right}

@@ -1,8 +1,7 @@
 -- What a whole buffer of frames adds to what was read, passed on and sent.
-use Rattle.std.proofs.Common.{◌≡◌, ℕ, ◌+◌, ◌-◌, ◌*◌, ◌<◌, ◌≤◌, ◌^◌, inl, inr, map, false, List, [], ◌∷◌, ◌++◌, drop, refl, subst, sym, ap, ◌∙◌, arith}
+use Rattle.std.proofs.Common.{◌≡◌, ℕ, ◌+◌, ◌-◌, ◌*◌, ◌<◌, ◌≤◌, ◌^◌, inl, inr, map, false, List, [], ◌∷◌, ◌++◌, drop, refl, subst, sym, ap, ◌∙◌, arith, Option, Some}
 use Rattle.std.proofs.lemmas.Bool.{cases_lt}
 use Rattle.std.proofs.lemmas.List.{append_assoc, append-nil, length-append}
-use Rattle.std.specs.Prelude.{Option, Some}
 use Rattle.fx_frame_base.specs.declared.coding.Coding.{Coding}
 use Rattle.fx_frame_base.specs.Frame.{Samples}
 use Rattle.fx_frame_base.specs.Holds.{kinds, recipes}
@@ -27,10 +26,10 @@ use Rattle.fx_sound.specs.Source.{Held, Takes, to_come}
 use Rattle.fx_chain_run.specs.Block.{Blocked}
 use Rattle.fx_chain_run.specs.FrameWriter.{coded, coded_clips}
 use Rattle.fx_chain_run.specs.Pump.{Pumped, PumpedFront, Start}
-use Rattle.fx_chain_run.specs.Run.{Flowed, FlowedFront, WantsMore, sound_frames}
+use Rattle.fx_chain_run.specs.Run.{Flowed, WantsMore, sound_frames}
 use Rattle.fx_chain_run.specs.Through.{RunCutOff, Drained, RunGives, Reached, Through, RunWaits, took}
 use Rattle.fx_chain_run.specs.Through as reach
-use Rattle.fx_chain_run.proofs.Passing.{Flowed-turn, WantsMore-next, enough-same, not-both, sound_frames-more, taken-take}
+use Rattle.fx_chain_run.proofs.Passing.{Flowed-more, Flowed-turn, FlowedFront-more, WantsMore-next, enough-same, not-both, sound_frames-more, taken-take}
 use Rattle.fx_chain_run.proofs.Sending.{coded-append, coded_clips-append}
 
 module _ {S R : Type 0} (acts : Acts S R) where
@@ -73,26 +72,6 @@ module _ {S R : Type 0} (acts : Acts S R) where
     through = Through-block start at mid frames xs p.given gs p.through running fed q;
     clipped = omega (arith, coded_clips-append coding p.given gs, c, p.clipped);
     sent = rw (coded-append coding p.given gs, ← append_assoc head (coded coding p.given) (coded coding gs)) (Sent-put first now out new_out (head ++ coded coding p.given) (coded coding gs) p.sent b w);
-  }
-
-  -- what it gave after that was sent
-  Flowed-gave : (start at new : Parts S) (coding : Coding) (frames : List Samples) (clips new_clips : ℕ) (first now new_now : Option (List ℕ)) (out new_out : Pending) (head : List ℕ)
-      → Flowed acts start at coding frames clips first now out head → at.ended ≡ false → Drained acts at new coding clips new_clips now new_now out new_out → Flowed acts start new coding frames new_clips first new_now new_out head
-  Flowed-gave start at new coding frames clips new_clips first now new_now out new_out head p running q = record {
-    given = p.given ++ q.given;
-    through = Through-gave start at new frames p.given q.given p.through running q.gives;
-    clipped = omega (arith, coded_clips-append coding p.given q.given, q.clipped, p.clipped);
-    sent = rw (coded-append coding p.given q.given, ← append_assoc head (coded coding p.given) (coded coding q.given)) (q.sends first (head ++ coded coding p.given) p.sent);
-  }
-
-  -- the writer failed at what it gave after that
-  Flowed-cut : (start at new : Parts S) (coding : Coding) (frames : List Samples) (clips new_clips : ℕ) (first now new_now : Option (List ℕ)) (out new_out : Pending) (head : List ℕ)
-      → Flowed acts start at coding frames clips first now out head → at.ended ≡ false → RunCutOff acts at new coding clips new_clips now new_now out new_out → FlowedFront acts start new coding frames new_clips first new_now new_out head
-  Flowed-cut start at new coding frames clips new_clips first now new_now out new_out head p running q = record {
-    given = p.given ++ q.given;
-    through = Through-gave start at new frames p.given q.given p.through running q.gives;
-    clipped = omega (arith, coded_clips-append coding p.given q.given, q.clipped, p.clipped);
-    front = rw (coded-append coding p.given q.given, ← append_assoc head (coded coding p.given) (coded coding q.given)) (q.front first (head ++ coded coding p.given) p.sent);
   }
 
 -- nothing was passed
@@ -178,7 +157,7 @@ module _ {S R X : Type 0} (acts : Acts S R) (device : ByteReader X) (first : Sta
     bound = bound;
     coded = p.coded;
     ran = ran-block;
-    flowed = λ bytes known. Flowed-gave acts first.flow mid new first.coding _ mid_clips new_clips first.wrote wrote new_wrote mid_out new_out first.head (flowed-block bytes known) running-block (rw p.coded at q);
+    flowed = λ bytes known. let f = flowed-block bytes known in let r = rw p.coded at q in Flowed-more acts f r (Through-gave acts first.flow mid new _ f.given r.given f.through running-block r.gives);
     takes =
         let size : ℕ = size_of first.progress in
         let same : b.count * size_of progress ≡ b.count * size = ap (λ n. b.count * n) p.size in
@@ -201,7 +180,7 @@ module _ {S R X : Type 0} (acts : Acts S R) (device : ByteReader X) (first : Sta
     wants = wants-block;
     whole = λ bytes known. (ran-block bytes known).whole;
     left = λ bytes known. (ran-block bytes known).to_come_is;
-    flowed = λ bytes known. Flowed-cut acts first.flow mid new first.coding _ mid_clips new_clips first.wrote wrote new_wrote mid_out new_out first.head (flowed-block bytes known) running-block (rw p.coded at q);
+    flowed = λ bytes known. let f = flowed-block bytes known in let r = rw p.coded at q in FlowedFront-more acts f r (Through-gave acts first.flow mid new _ f.given r.given f.through running-block r.gives);
     reads = ap device.failures b.reader ∙ p.reads;
   }
 
@@ -246,7 +225,7 @@ Pumped-turn acts device first flow fed new source source' progress progress' cod
           let taken = takes (drop (turn * size) bytes) ran.to_come_is in
           let frames = ap (λ n. sound_frames first.progress n bytes) count ∙ sound_frames-more _ _ _ _ _ _ _ ran taken in
           rw frames
-          (Flowed-turn acts first.flow flow fed new first.coding _ _ _ _ _ _ _ _ _ first.head (p.flowed bytes known) p.hungry is (rw p.coded at q));
+          (Flowed-turn acts first.flow flow fed new first.coding _ _ _ _ _ _ _ _ first.head (p.flowed bytes known) p.hungry _ is (rw p.coded at q));
       takes = Takes-both device.delivered first.source source source' (turn * size) size _ (sym (ap (λ n. n * size) count ∙ more)) p.takes (rw p.size at taken);
       reads = reads ∙ p.reads;
     }

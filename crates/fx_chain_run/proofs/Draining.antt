@@ -1,7 +1,6 @@
 -- What stays true while a flow is stepped and what it gives is sent.
-use Rattle.std.proofs.Common.{◌≡◌, ℕ, ◌+◌, ◌≤◌, ◌^◌, map, List, [], ◌∷◌, ◌++◌, refl, sym, ap, ◌∙◌, arith}
+use Rattle.std.proofs.Common.{◌≡◌, ℕ, ◌+◌, ◌≤◌, ◌^◌, map, List, [], ◌∷◌, ◌++◌, refl, sym, ap, ◌∙◌, arith, Option}
 use Rattle.std.proofs.lemmas.List.{append_assoc, append-nil, length-append}
-use Rattle.std.specs.Prelude.{Option}
 use Rattle.fx_frame_base.specs.declared.coding.Coding.{Coding}
 use Rattle.fx_frame_base.specs.Frame.{Samples}
 use Rattle.fx_sound.specs.FrameCoding.{bytes_of, clips_of}
@@ -13,7 +12,7 @@ use Rattle.fx_chain_flow.proofs.Laws.{max_of-le}
 use Rattle.fx_chain_flow.specs.declared.flow.Step.{Step}
 use Rattle.fx_chain_flow.specs.Steps.{MovedOn, Steps, given_out, rest_of}
 use Rattle.fx_sound.specs.Output.{Pending, SendsMore, SendsPart}
-use Rattle.fx_chain_run.specs.FrameWriter.{coded}
+use Rattle.fx_chain_run.specs.FrameWriter.{coded, coded_clips}
 use Rattle.fx_chain_run.specs.Through.{RunCutOff, Drained, RunGives, stepped}
 use Rattle.fx_chain_run.proofs.Sending.{WroteFront-part, coded-more, coded_clips-append}
 
@@ -62,30 +61,27 @@ module _ {S R : Type 0} (acts : Acts S R) where
     sends = p.sends;
   }
 
-  -- a step that gave a frame, which was sent
-  pub Drained-more : (old at new : Parts S) (step : Step) (frame : Samples) (coding : Coding) (clips at_clips new_clips : ℕ) (now at_now new_now : Option (List ℕ)) (out at_out new_out : Pending)
-      → Drained acts old at coding clips at_clips now at_now out at_out → Steps acts at step new → MovedOn acts at step new → given_out step ≡ frame ∷ []
-      → new_clips ≡ at_clips + clips_of coding frame → SendsMore at_now new_now at_out new_out (bytes_of coding frame)
-      → Drained acts old new coding clips new_clips now new_now out new_out
-  Drained-more old at new step frame coding clips at_clips new_clips now at_now new_now out at_out new_out p s on gave c m = record {
-    given = p.given ++ frame ∷ [];
-    gives = rw gave at (Gives-step old at new step p.given p.gives s on);
-    clipped = let e = coded_clips-append coding p.given (frame ∷ []) in omega (arith, e, c, p.clipped);
-    sends = λ first all t. rw (← coded-more coding all p.given frame) (m first (all ++ coded coding p.given) (p.sends first all t));
-  }
+  module _ (old at new : Parts S) (step : Step) (frame : Samples) (coding : Coding) (clips at_clips new_clips : ℕ) (now at_now new_now : Option (List ℕ)) (out at_out new_out : Pending)
+      (p : Drained acts old at coding clips at_clips now at_now out at_out) (s : Steps acts at step new) (on : MovedOn acts at step new) (gave : given_out step ≡ frame ∷ []) (c : new_clips ≡ at_clips + clips_of coding frame) where
+    gives-more : RunGives acts old new (p.given ++ frame ∷ [])
+    gives-more = rw gave at (Gives-step old at new step p.given p.gives s on)
 
-  -- a step that gave a frame, at which the writer failed
-  pub CutOff-more : (old at new : Parts S) (step : Step) (frame : Samples) (coding : Coding) (clips at_clips new_clips : ℕ) (now at_now new_now : Option (List ℕ)) (out at_out new_out : Pending)
-      → Drained acts old at coding clips at_clips now at_now out at_out → Steps acts at step new → MovedOn acts at step new → given_out step ≡ frame ∷ []
-      → new_clips ≡ at_clips + clips_of coding frame → SendsPart at_now new_now at_out new_out (bytes_of coding frame)
-      → RunCutOff acts old new coding clips new_clips now new_now out new_out
-  CutOff-more old at new step frame coding clips at_clips new_clips now at_now new_now out at_out new_out p s on gave c m = record {
-    given = p.given ++ frame ∷ [];
-    gives = rw gave at (Gives-step old at new step p.given p.gives s on);
-    clipped = let e = coded_clips-append coding p.given (frame ∷ []) in omega (arith, e, c, p.clipped);
-    front = λ first all t. rw (← coded-more coding all p.given frame)
-        (WroteFront-part first new_now new_out (all ++ coded coding p.given) (bytes_of coding frame) m.count (m.sends first (all ++ coded coding p.given) (p.sends first all t)));
-  }
+    clips-more : new_clips ≡ clips + coded_clips coding (p.given ++ frame ∷ [])
+    clips-more = omega (arith, coded_clips-append coding p.given (frame ∷ []), c, p.clipped)
+
+    -- a step that gave a frame, which was sent
+    pub Drained-more : SendsMore at_now new_now at_out new_out (bytes_of coding frame) → Drained acts old new coding clips new_clips now new_now out new_out
+    Drained-more m = record { given = p.given ++ frame ∷ []; gives = gives-more; clipped = clips-more; sends = λ first all t. rw (← coded-more coding all p.given frame) (m first (all ++ coded coding p.given) (p.sends first all t)) }
+
+    -- a step that gave a frame, at which the writer failed
+    pub CutOff-more : SendsPart at_now new_now at_out new_out (bytes_of coding frame) → RunCutOff acts old new coding clips new_clips now new_now out new_out
+    CutOff-more m = record {
+      given = p.given ++ frame ∷ [];
+      gives = gives-more;
+      clipped = clips-more;
+      front = λ first all t. rw (← coded-more coding all p.given frame)
+          (WroteFront-part first new_now new_out (all ++ coded coding p.given) (bytes_of coding frame) m.count (m.sends first (all ++ coded coding p.given) (p.sends first all t)));
+    }
 
   -- the frames that a flow gave are at most those of its plan
   pub given_by-bound : ((r : R) (m n : ℕ) → m ≤ n → (acts.kind_of r).maximum m ≤ (acts.kind_of r).maximum n) → (start at : Parts S) → recipes acts at.stages ≡ recipes acts start.stages

@@ -1,7 +1,6 @@
 -- What stays true while frames go through a flow to a writer.
-use Rattle.std.proofs.Common.{◌≡◌, ℕ, ◌+◌, ◌*◌, ◌≤◌, map, Bool, true, false, List, [], ◌∷◌, ◌++◌, drop, take, refl, sym, ap, ◌∙◌, arith, Some, None, option_to_list}
+use Rattle.std.proofs.Common.{◌≡◌, ℕ, ◌+◌, ◌*◌, ◌≤◌, map, Bool, true, false, List, [], ◌∷◌, ◌++◌, drop, take, refl, sym, ap, ◌∙◌, arith, Some, None, option_to_list, Option, nat_lt}
 use Rattle.std.proofs.lemmas.List.{append_assoc, append-nil, length-append}
-use Rattle.std.specs.Prelude.{Option, nat_lt}
 use borrow.Author.Tests.{ltb-true, ltb-false}
 use Rattle.fx_frame_base.specs.declared.coding.Coding.{Coding}
 use Rattle.fx_frame_base.specs.Frame.{Samples}
@@ -109,49 +108,41 @@ module _ {S R : Type 0} (acts : Acts S R) where
       → FlowedFront acts start start coding [] clips first now out head
   FlowedFront-start start coding clips first now out head none unclipped w = record { given = []; through = Through-start start none; clipped = unclipped; front = rw (append-nil head) w }
 
-  -- a frame was taken, and what the flow then gave was sent
-  pub Flowed-turn : (start at g new : Parts S) (coding : Coding) (frames : List Samples) (frame : Samples) (clips new_clips : ℕ) (first now new_now : Option (List ℕ)) (out new_out : Pending) (head : List ℕ)
-      → Flowed acts start at coding frames clips first now out head → IsHungry acts at → g ≡ record at { inlet = Some frame } → Drained acts g new coding clips new_clips now new_now out new_out
-      → Flowed acts start new coding (frames ++ frame ∷ []) new_clips first new_now new_out head
-  Flowed-turn start at g new coding frames frame clips new_clips first now new_now out new_out head p hungry e q = record {
-    given = p.given ++ q.given;
-    through = Through-turn start at g new frames p.given q.given frame p.through hungry e q.gives;
-    clipped = let c = coded_clips-append coding p.given q.given in omega (arith, c, q.clipped, p.clipped);
-    sent = rw (coded-append coding p.given q.given, ← append_assoc head (coded coding p.given) (coded coding q.given)) (q.sends first (head ++ coded coding p.given) p.sent);
-  }
+  module _ {start at g new : Parts S} {coding : Coding} {frames all : List Samples} {clips new_clips : ℕ} {first now new_now : Option (List ℕ)} {out new_out : Pending} {head : List ℕ}
+      (p : Flowed acts start at coding frames clips first now out head) where
+    -- what the flow gave after that was sent
+    pub Flowed-more : (q : Drained acts g new coding clips new_clips now new_now out new_out) → Through acts start new all (p.given ++ q.given) → Flowed acts start new coding all new_clips first new_now new_out head
+    Flowed-more q through = record {
+      given = p.given ++ q.given;
+      through = through;
+      clipped = omega (arith, coded_clips-append coding p.given q.given, q.clipped, p.clipped);
+      sent = rw (coded-append coding p.given q.given, ← append_assoc head (coded coding p.given) (coded coding q.given)) (q.sends first (head ++ coded coding p.given) p.sent);
+    }
 
-  -- the end was told, and what the flow then gave was sent
-  pub Flowed-end : (start at g new : Parts S) (coding : Coding) (frames : List Samples) (clips new_clips : ℕ) (first now new_now : Option (List ℕ)) (out new_out : Pending) (head : List ℕ)
-      → Flowed acts start at coding frames clips first now out head → IsHungry acts at → g ≡ record at { ended = true } → Drained acts g new coding clips new_clips now new_now out new_out
-      → Flowed acts start new coding frames new_clips first new_now new_out head
-  Flowed-end start at g new coding frames clips new_clips first now new_now out new_out head p hungry e q = record {
-    given = p.given ++ q.given;
-    through = Through-end start at g new frames p.given q.given p.through hungry e q.gives;
-    clipped = let c = coded_clips-append coding p.given q.given in omega (arith, c, q.clipped, p.clipped);
-    sent = rw (coded-append coding p.given q.given, ← append_assoc head (coded coding p.given) (coded coding q.given)) (q.sends first (head ++ coded coding p.given) p.sent);
-  }
+    -- the writer failed at it
+    pub FlowedFront-more : (q : RunCutOff acts g new coding clips new_clips now new_now out new_out) → Through acts start new all (p.given ++ q.given) → FlowedFront acts start new coding all new_clips first new_now new_out head
+    FlowedFront-more q through = record {
+      given = p.given ++ q.given;
+      through = through;
+      clipped = omega (arith, coded_clips-append coding p.given q.given, q.clipped, p.clipped);
+      front = rw (coded-append coding p.given q.given, ← append_assoc head (coded coding p.given) (coded coding q.given)) (q.front first (head ++ coded coding p.given) p.sent);
+    }
 
-  -- a frame was taken, and the writer failed at what the flow then gave
-  pub FlowedFront-turn : (start at g new : Parts S) (coding : Coding) (frames : List Samples) (frame : Samples) (clips new_clips : ℕ) (first now new_now : Option (List ℕ)) (out new_out : Pending) (head : List ℕ)
-      → Flowed acts start at coding frames clips first now out head → IsHungry acts at → g ≡ record at { inlet = Some frame } → RunCutOff acts g new coding clips new_clips now new_now out new_out
-      → FlowedFront acts start new coding (frames ++ frame ∷ []) new_clips first new_now new_out head
-  FlowedFront-turn start at g new coding frames frame clips new_clips first now new_now out new_out head p hungry e q = record {
-    given = p.given ++ q.given;
-    through = Through-turn start at g new frames p.given q.given frame p.through hungry e q.gives;
-    clipped = let c = coded_clips-append coding p.given q.given in omega (arith, c, q.clipped, p.clipped);
-    front = rw (coded-append coding p.given q.given, ← append_assoc head (coded coding p.given) (coded coding q.given)) (q.front first (head ++ coded coding p.given) p.sent);
-  }
+  module _ (start at g new : Parts S) (coding : Coding) (frames : List Samples) (clips new_clips : ℕ) (first now new_now : Option (List ℕ)) (out new_out : Pending) (head : List ℕ)
+      (p : Flowed acts start at coding frames clips first now out head) (hungry : IsHungry acts at) where
+    -- a frame was taken
+    pub Flowed-turn : (frame : Samples) → g ≡ record at { inlet = Some frame } → Drained acts g new coding clips new_clips now new_now out new_out → Flowed acts start new coding (frames ++ frame ∷ []) new_clips first new_now new_out head
+    Flowed-turn frame e q = Flowed-more p q (Through-turn start at g new frames p.given q.given frame p.through hungry e q.gives)
 
-  -- the end was told, and the writer failed at what the flow then gave
-  pub FlowedFront-end : (start at g new : Parts S) (coding : Coding) (frames : List Samples) (clips new_clips : ℕ) (first now new_now : Option (List ℕ)) (out new_out : Pending) (head : List ℕ)
-      → Flowed acts start at coding frames clips first now out head → IsHungry acts at → g ≡ record at { ended = true } → RunCutOff acts g new coding clips new_clips now new_now out new_out
-      → FlowedFront acts start new coding frames new_clips first new_now new_out head
-  FlowedFront-end start at g new coding frames clips new_clips first now new_now out new_out head p hungry e q = record {
-    given = p.given ++ q.given;
-    through = Through-end start at g new frames p.given q.given p.through hungry e q.gives;
-    clipped = let c = coded_clips-append coding p.given q.given in omega (arith, c, q.clipped, p.clipped);
-    front = rw (coded-append coding p.given q.given, ← append_assoc head (coded coding p.given) (coded coding q.given)) (q.front first (head ++ coded coding p.given) p.sent);
-  }
+    pub FlowedFront-turn : (frame : Samples) → g ≡ record at { inlet = Some frame } → RunCutOff acts g new coding clips new_clips now new_now out new_out → FlowedFront acts start new coding (frames ++ frame ∷ []) new_clips first new_now new_out head
+    FlowedFront-turn frame e q = FlowedFront-more p q (Through-turn start at g new frames p.given q.given frame p.through hungry e q.gives)
+
+    -- the end was told
+    pub Flowed-end : g ≡ record at { ended = true } → Drained acts g new coding clips new_clips now new_now out new_out → Flowed acts start new coding frames new_clips first new_now new_out head
+    Flowed-end e q = Flowed-more p q (Through-end start at g new frames p.given q.given p.through hungry e q.gives)
+
+    pub FlowedFront-end : g ≡ record at { ended = true } → RunCutOff acts g new coding clips new_clips now new_now out new_out → FlowedFront acts start new coding frames new_clips first new_now new_out head
+    FlowedFront-end e q = FlowedFront-more p q (Through-end start at g new frames p.given q.given p.through hungry e q.gives)
 
   -- where nothing that follows changes anything
   pub determined : (start at : Parts S) (frames given z : List Samples) → Through acts start at frames given → at.ended ≡ false → ((y : List Samples) → rest_of acts at y ≡ rest_of acts at [])

@@ -1,8 +1,7 @@
 -- What a run reports.
-use Rattle.std.proofs.Common.{zero, suc, ◌≡◌, ℕ, ◌+◌, ◌-◌, ◌*◌, ◌<◌, ◌≤◌, map, inl, inr, Bool, true, false, List, [], ◌∷◌, ◌++◌, length, take, replicate, refl, sym, ap, ◌∙◌, arith}
+use Rattle.std.proofs.Common.{zero, suc, ◌≡◌, ℕ, ◌+◌, ◌-◌, ◌*◌, ◌<◌, ◌≤◌, map, inl, inr, Bool, true, false, List, [], ◌∷◌, ◌++◌, length, take, replicate, refl, sym, ap, ◌∙◌, arith, ◌⊎◌, MatchBool, Option, Some, drop, not, slice_index, slice_set}
 use Rattle.std.proofs.Math.Nat.{div-add-mod'}
 use Rattle.std.proofs.lemmas.List.{append-nil, length-append, length-drop, take_at}
-use Rattle.std.specs.Prelude.{◌⊎◌, MatchBool, Option, Some, drop, not, slice_index, slice_set}
 use Rattle.fx_sound.specs.Known.{IfKnown}
 use Rattle.fx_frame_base.specs.declared.coding.Coding.{Coding}
 use Rattle.fx_frame_base.specs.Frame.{Samples}

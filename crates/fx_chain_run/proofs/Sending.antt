@@ -1,8 +1,7 @@
 -- What stays true while frames are sent.
-use Rattle.std.proofs.Common.{◌≡◌, ℕ, ◌+◌, ◌≤◌, List, [], ◌∷◌, ◌++◌, length, take, drop, refl, sym, ap, ◌∙◌, arith, mul-le-mul}
+use Rattle.std.proofs.Common.{◌≡◌, ℕ, ◌+◌, ◌≤◌, List, [], ◌∷◌, ◌++◌, length, take, drop, refl, sym, ap, ◌∙◌, arith, mul-le-mul, Option}
 use Rattle.std.proofs.lemmas.List.{append_assoc, length-append, take-append-drop, take-append-le, flat_map_more}
 use Rattle.std.proofs.lemmas.List.Sums.{count_by-le-length, sum_by-append}
-use Rattle.std.specs.Prelude.{Option}
 use Rattle.fx_frame_base.specs.declared.coding.Coding.{Coding}
 use Rattle.fx_frame_base.specs.Frame.{Samples}
 use Rattle.fx_sound.specs.FrameCoding.{bytes_of, clips_of, frame_size}

@@ -1,10 +1,9 @@
 -- What a writer had been given each time that a run asked its reader for more.
-use Rattle.std.proofs.Common.{◌≡◌, ℕ, ◌+◌, ◌-◌, ◌*◌, ◌/◌, ◌<◌, ◌≤◌, Bool, true, List, [], ◌++◌, length, drop, min, subst, sym, ap, ◌∙◌, arith}
+use Rattle.std.proofs.Common.{◌≡◌, ℕ, ◌+◌, ◌-◌, ◌*◌, ◌/◌, ◌<◌, ◌≤◌, Bool, true, List, [], ◌++◌, length, drop, min, subst, sym, ap, ◌∙◌, arith, None, Option, Some}
 use Rattle.std.proofs.lemmas.List.{length-append, length-drop, length-take, take_all}
 use Rattle.std.proofs.Math.Nat.{add-mul}
 use Rattle.std.proofs.lemmas.Nat.{div-mul-add}
 use Rattle.std.specs.Io.KnownBytes.{Appends}
-use Rattle.std.specs.Prelude.{None, Option, Some}
 use Rattle.fx_sound.specs.Known.{IfKnown}
 use Rattle.fx_frame_base.specs.Io.{ByteReader}
 use Rattle.fx_frame_base.specs.Moments.{Moment, came_short}
@@ -33,13 +32,6 @@ sent-all first now out all s empty =
     subst P (take_all out.written all whole) s.taken
 
 module _ {R : Type 0} (asked : R → R → Moment → Type 0) where
-  -- no read was made yet
-  pub AsksOn-none : (s : Held R) (want : ℕ) (now : Option (List ℕ)) (out : Pending) → AsksOn asked s s want now out (λ more. length s.bytes ≡ length s.bytes + more)
-  AsksOn-none s want now out = λ due first start came all sent same waited.
-      let none : came ≡ came + 0 = omega arith in
-      let P : ℕ → Type 0 = λ n. Waited asked due first start n s.short s.reader in
-      (0, subst P none waited, omega arith)
-
   -- one read more, while fewer than the wanted bytes are held
   pub AsksOn-turn : (old mid new : Held R) (want : ℕ) (now mid_now new_now : Option (List ℕ)) (out mid_out new_out : Pending)
       → AsksOn asked old mid want now out (λ more. length mid.bytes ≡ length old.bytes + more) → length mid.bytes < want
@@ -117,9 +109,6 @@ module _ {S R X : Type 0} (acts : Acts S R) (device : ByteReader X) (asked : X �
   abbrev pub WaitsMore : ℕ → Held X → (ℕ → Type 0) → Type 0
   WaitsMore came new Fits = IfKnown (to_come device.rest first.source) (λ bytes. (more : ℕ)
       × Waited asked (due_bytes acts first.flow first.coding first.head first.progress bytes) first.wrote first.source (came + more) new.short new.reader × Fits more)
-
-  pub Waits-until : (came : ℕ) (short : Bool) (reader : X) → WaitsAt came short reader → WaitsUntil reader
-  Waits-until came short reader waits = λ bytes known. record { came = came; short = short; waited = waits bytes known }
 
   pub WaitsMore-until : (came : ℕ) (new : Held X) (Fits : ℕ → Type 0) → WaitsMore came new Fits → WaitsUntil new.reader
   WaitsMore-until came new Fits waits = λ bytes known. let w = waits bytes known in record { came = came + w.0; short = new.short; waited = w.1 }

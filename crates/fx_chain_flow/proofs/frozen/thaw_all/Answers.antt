@@ -1,6 +1,5 @@
-use Rattle.std.proofs.Common.{rules, ◌≡◌, ◌+◌, ◌<◌, ◌∷◌, [], ◌++◌, length, drop, take, arith}
+use Rattle.std.proofs.Common.{rules, ◌≡◌, ◌+◌, ◌<◌, ◌∷◌, [], ◌++◌, length, drop, take, arith, slice_index_or}
 use Rattle.std.proofs.lemmas.Grind.{common_steps}
-use Rattle.std.specs.Prelude.{slice_index_or}
 use Rattle.fx_frame_base.specs.Stage.{Freezes}
 use Rattle.fx_chain_flow.proofs.Thawing.{AllMade-more, stored-more, numbers-more, ThawsOn-step, drop-next}
 use Rattle.fx_chain_flow.proofs.frozen.thaw_all.Goals as goal

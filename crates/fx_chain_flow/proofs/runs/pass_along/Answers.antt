@@ -75,10 +75,10 @@ stages-preserved g c =
     let acts = g.S.Stage.acts in
     let here : c.stages.place < length c.stages.stages = omega (arith, c.stages-test.true, c.stages.auto.stages) in
     let sixteen : length c.pass_at.new.places ≡ 16 = search rules in
+    let x : Samples = take c.stages.width c.stages.places in
+    let y : Samples = take c.pass_at.new.channels c.pass_at.new.places in
     elim c.match-pass_at.branch [
       | in-Through w ↦
-          let x : Samples = (take c.stages.width c.stages.places) in
-          let y : Samples = (take c.pass_at.new.channels c.pass_at.new.places) in
           let p = ChangedAt-placed (WasPassed acts Through (take c.stages.width c.stages.places) (take c.pass_at.new.channels c.pass_at.new.places)) c.stages.place c.stages.stages c.pass_at.new.stages w.in-Through.ensures.passed in
           let passed = p.changed.0 in
           let held : AllHeld acts c.pass_at.new.stages = rw p.put (AllHeld-set acts c.stages.place c.stages.stages p.after passed.2.held c.stages.invariant.held) in
@@ -92,8 +92,6 @@ stages-preserved g c =
             order = λ left. passed-order acts g.S.StageCalls.handed g.S.PassesWhile.passed_while _ _ _ [] x y c.stages.place c.pass_at.new.stages (c.stages.invariant.order left) refl w.in-Through.ensures.handed held;
           })
       | in-More w ↦
-          let x : Samples = (take c.stages.width c.stages.places) in
-          let y : Samples = (take c.pass_at.new.channels c.pass_at.new.places) in
           let p = ChangedAt-placed (WasPassed acts More (take c.stages.width c.stages.places) (take c.pass_at.new.channels c.pass_at.new.places)) c.stages.place c.stages.stages c.pass_at.new.stages w.in-More.ensures.passed in
           let passed = p.changed.0 in
           let held : AllHeld acts c.pass_at.new.stages = rw p.put (AllHeld-set acts c.stages.place c.stages.stages p.after passed.2.held c.stages.invariant.held) in

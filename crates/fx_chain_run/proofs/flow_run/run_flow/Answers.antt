@@ -1,6 +1,5 @@
-use Rattle.std.proofs.Common.{rules, ◌≡◌, ◌∙◌, inl, inr, length, refl, sym, ap, arith}
+use Rattle.std.proofs.Common.{rules, ◌≡◌, ◌∙◌, inl, inr, length, refl, sym, ap, arith, Err}
 use Rattle.std.proofs.lemmas.Grind.{common_steps}
-use Rattle.std.specs.Prelude.{Err}
 use Rattle.fx_chain_run.specs.declared.pump.Cause.TheVariants.{ReadFailed, WriteFailed, TooLong}
 use Rattle.fx_chain_run.specs.FrameWriter.{coded_clips}
 use Rattle.std.proofs.lemmas.List.{append-nil}

@@ -1,5 +1,4 @@
-use Rattle.std.proofs.Common.{rules, ◌≡◌, ◌++◌, refl, arith}
-use Rattle.std.specs.Prelude.{option_to_list}
+use Rattle.std.proofs.Common.{rules, ◌≡◌, ◌++◌, refl, arith, option_to_list}
 use Rattle.std.proofs.lemmas.List.{length-append}
 use Rattle.fx_chain_flow.specs.Frozen.{inlet_numbers, stored_all, numbers_all}
 use Rattle.fx_chain_flow.proofs.Thawing.{length-stored, length-numbers}

@@ -1,5 +1,4 @@
-use Rattle.std.proofs.Common.{rules, ◌≡◌, false, ◌+◌, ◌*◌, ◌<◌, ◌≤◌, ◌++◌, ◌∙◌, drop, length, take, ap, sym, arith}
-use Rattle.std.specs.Prelude.{None}
+use Rattle.std.proofs.Common.{rules, ◌≡◌, false, ◌+◌, ◌*◌, ◌<◌, ◌≤◌, ◌++◌, ◌∙◌, drop, length, take, ap, sym, arith, None}
 use Rattle.std.proofs.Math.Nat.{mul-le-mul_right}
 use Rattle.fx_frame_base.proofs.Pieces.{length-pieces}
 use Rattle.fx_frame_base.specs.Holds.{kinds}

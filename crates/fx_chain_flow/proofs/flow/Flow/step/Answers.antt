@@ -1,11 +1,22 @@
-use Rattle.std.proofs.Common.{rules, cond, nat_eq, ◌≡◌, ◌+◌, ◌<◌, ◌^◌, [], append-nil, length, refl, sym, ap, ◌∙◌, arith}
+use Rattle.std.proofs.Common.{rules, cond, nat_eq, ◌≡◌, ◌+◌, ◌<◌, ◌^◌, [], append-nil, length, refl, sym, ap, ◌∙◌, arith, true}
 use Rattle.fx_frame_base.specs.Holds.{hold_sum, kinds}
 use Rattle.fx_chain_flow.proofs.Steps.{IsSound-pass, Steps-pass, ended-busy, given_out-step_of, never-idle}
 use Rattle.fx_chain_flow.proofs.Moving.{determined-none, determined-after, count-le, IsWetEnd-le, CanMove-sound, IsSound-move, Steps-move, MovedOn-move, MovedOn-pass}
 use Rattle.fx_frame_base.proofs.Puts.{written_back}
+use Rattle.fx_chain_flow.specs.Parts.{AllDetermined}
 use Rattle.fx_chain_flow.specs.Steps.{one_more}
 use Rattle.fx_chain_flow.proofs.Orders.{InOrder-then, lined-minimum}
+use Rattle.fx_chain_flow.proofs.flow.Flow.step.Given as given
 use Rattle.fx_chain_flow.proofs.flow.Flow.step.Goals as goal
+use Rattle.fx_chain_flow.proofs.flow.Flow.step.Goals.{Then-is_idle}
+
+-- nothing is pending, and the flow was given the end
+idle : (g : given.Over) (c : Then-is_idle g) → AllDetermined g.S.Stage.acts c.self.inside.stages.items × (c.self.inside.ended ≡ true)
+idle g c =
+    let unchanged = c.if-is_idle.ensures.0 refl in
+    let dry = determined-none g.S.Stage.acts c.self.inside.wet c.self.inside.stages.items (omega (arith, unchanged.0)) c.self.invariant.1 in
+    let busy = rw (← c.self.view_is) at c.requires in
+    (dry, ended-busy g.S.Stage.acts _ unchanged.1 dry busy.0)
 
 pub pass_on-self-inside-requires-clause-open : goal.pass_on-self-inside-requires-clause-open
 pass_on-self-inside-requires-clause-open g c =
@@ -16,30 +27,21 @@ pass_on-self-inside-requires-clause-open g c =
 
 pub invariant_of-self : goal.invariant_of-self
 invariant_of-self g c =
-    let unchanged = c.if-is_idle.ensures.0 refl in
-    let dry = determined-none g.S.Stage.acts c.self.inside.wet c.self.inside.stages.items (omega (arith, unchanged.0)) c.self.invariant.1 in
-    let busy = rw (← c.self.view_is) at c.requires in
-    let over = ended-busy g.S.Stage.acts _ unchanged.1 dry busy.0 in
+    let (dry, over) = idle g (goal.at.invariant_of-self g c).Then-is_idle in
     let passed = rw c.deref_mut.ensures.value at c.pass_on-self-inside.ensures.passed in
     rw (written_back c.self.inside.stages.items c.pass_on-self-inside.new.stages c.self.inside.stages.len c.self.inside.stages.ok.0 (c.pass_on-self-inside.auto.stages ∙ ap length c.deref_mut.ensures.value))
     (IsSound-pass g.S.Stage.acts g.met.S.Stage.rises _ passed.0 c.pass_on-self-inside.new.stages c.self.invariant.0 over dry passed.1 passed.2, c.pass_on-self-inside.ensures.wet, c.pass_on-self-inside.ensures.held, c.pass_on-self-inside.ensures.lined)
 
 pub returns-then-is_idle-clause-steps : goal.returns-then-is_idle-clause-steps
 returns-then-is_idle-clause-steps g c =
-    let unchanged = c.if-is_idle.ensures.0 refl in
-    let dry = determined-none g.S.Stage.acts c.self.inside.wet c.self.inside.stages.items (omega (arith, unchanged.0)) c.self.invariant.1 in
-    let busy = rw (← c.self.view_is) at c.requires in
-    let over = ended-busy g.S.Stage.acts _ unchanged.1 dry busy.0 in
+    let (dry, over) = idle g (goal.at.returns-then-is_idle-clause-steps g c).Then-is_idle in
     let passed = rw c.deref_mut.ensures.value at c.pass_on-self-inside.ensures.passed in
     rw (← c.self.view_is, written_back c.self.inside.stages.items c.pass_on-self-inside.new.stages c.self.inside.stages.len c.self.inside.stages.ok.0 (c.pass_on-self-inside.auto.stages ∙ ap length c.deref_mut.ensures.value))
     (Steps-pass g.S.Stage.acts g.met.S.Stage.rises _ passed.0 c.pass_on-self-inside.new.stages c.self.invariant.0 over dry passed.1 passed.2)
 
 pub returns-then-is_idle-clause-moved : goal.returns-then-is_idle-clause-moved
 returns-then-is_idle-clause-moved g c =
-    let unchanged = c.if-is_idle.ensures.0 refl in
-    let dry = determined-none g.S.Stage.acts c.self.inside.wet c.self.inside.stages.items (omega (arith, unchanged.0)) c.self.invariant.1 in
-    let busy = rw (← c.self.view_is) at c.requires in
-    let over = ended-busy g.S.Stage.acts _ unchanged.1 dry busy.0 in
+    let (dry, over) = idle g (goal.at.returns-then-is_idle-clause-moved g c).Then-is_idle in
     let passed = rw c.deref_mut.ensures.value at c.pass_on-self-inside.ensures.passed in
     rw (← c.self.view_is, written_back c.self.inside.stages.items c.pass_on-self-inside.new.stages c.self.inside.stages.len c.self.inside.stages.ok.0 (c.pass_on-self-inside.auto.stages ∙ ap length c.deref_mut.ensures.value))
     (MovedOn-pass g.S.Stage.acts g.met.S.Stage.rises _ passed.0 c.pass_on-self-inside.new.stages c.self.invariant.0 over dry passed.1 passed.2)
@@ -89,10 +91,8 @@ returns-clause-moved g c =
 
 pub returns-then-is_idle-clause-sequence : goal.returns-then-is_idle-clause-sequence
 returns-then-is_idle-clause-sequence g c =
-    let unchanged = c.if-is_idle.ensures.0 refl in
-    let dry = determined-none g.S.Stage.acts c.self.inside.wet c.self.inside.stages.items (omega (arith, unchanged.0)) c.self.invariant.1 in
+    let (dry, over) = idle g (goal.at.returns-then-is_idle-clause-sequence g c).Then-is_idle in
     let busy = rw (← c.self.view_is) at c.requires in
-    let over = ended-busy g.S.Stage.acts _ unchanged.1 dry busy.0 in
     let passed = rw c.deref_mut.ensures.value at c.pass_on-self-inside.ensures.passed in
     rw (← c.self.view_is, written_back c.self.inside.stages.items c.pass_on-self-inside.new.stages c.self.inside.stages.len c.self.inside.stages.ok.0 (c.pass_on-self-inside.auto.stages ∙ ap length c.deref_mut.ensures.value))
     (λ first n steps. one_more n _ _ _ steps busy (Steps-pass g.S.Stage.acts g.met.S.Stage.rises _ passed.0 c.pass_on-self-inside.new.stages c.self.invariant.0 over dry passed.1 passed.2))

@@ -1,6 +1,5 @@
-use Rattle.std.proofs.Common.{rules, ◌≡◌, take, arith}
+use Rattle.std.proofs.Common.{rules, ◌≡◌, take, arith, slice_index_or}
 use Rattle.std.proofs.lemmas.Grind.{common_steps}
-use Rattle.std.specs.Prelude.{slice_index_or}
 use Rattle.fx_chain_flow.proofs.Thawing.{IsInlet-of}
 use Rattle.fx_chain_flow.proofs.flow.Flow.thaw.Goals as goal
 

@@ -1,5 +1,4 @@
-use Rattle.std.proofs.Common.{arith}
-use Rattle.std.specs.Prelude.{take}
+use Rattle.std.proofs.Common.{arith, take}
 use Rattle.fx_chain_flow.specs.StageCall.{MayBePassed, WasPassed}
 use Rattle.fx_chain_flow.proofs.Places.{At-get, At-inside, ChangedAt-set}
 use Rattle.fx_chain_flow.proofs.stage_calls.AnyStageCalls.pass_at.Goals as goal

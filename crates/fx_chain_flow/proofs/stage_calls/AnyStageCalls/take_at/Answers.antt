@@ -1,6 +1,5 @@
-use Rattle.std.proofs.Common.{arith}
+use Rattle.std.proofs.Common.{arith, length}
 use Rattle.fx_chain_flow.specs.StageCall.{MayTake, TookWithin}
-use Rattle.std.specs.Prelude.{length}
 use Rattle.fx_chain_flow.proofs.Places.{At-get, At-inside, ChangedAt-set}
 use Rattle.fx_chain_flow.proofs.stage_calls.AnyStageCalls.take_at.Goals as goal
 
