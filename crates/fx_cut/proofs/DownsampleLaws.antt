@@ -1,7 +1,6 @@
 -- The frames that `downsample` gives, along the list.
-use Rattle.std.proofs.Common.{ℕ, suc, ◌+◌, ◌-◌, ◌*◌, ◌<◌, ◌≤◌, ◌≡◌, ◌^◌, List, [], ◌∷◌, ◌++◌, length, drop, refl, sym, ap, ◌∙◌, arith, false, true, inl, inr, ◌⊎◌, length-drop, Option, Some, None, map, option_to_list}
+use Rattle.std.proofs.Common.{ℕ, suc, ◌+◌, ◌-◌, ◌*◌, ◌<◌, ◌≤◌, ◌≡◌, ◌^◌, List, [], ◌∷◌, ◌++◌, length, drop, refl, sym, ap, ◌∙◌, arith, false, true, inl, inr, ◌⊎◌, length-drop, Option, Some, None, map, option_to_list, slice_index_or, is_none}
 use Rattle.std.specs.Int.{div_ceil}
-use Rattle.std.specs.Prelude.{slice_index_or, is_none}
 use Rattle.std.proofs.lemmas.Grind.{div_ceil_times}
 use Rattle.fx_frame_base.specs.Frame.{Samples}
 use Rattle.fx_frame_base.specs.Stage.{Given, Took}

@@ -1,6 +1,5 @@
 -- Which pads stand before a frame, and how many frames that makes.
-use Rattle.std.proofs.Common.{◌≡◌, ℕ, zero, suc, ◌+◌, ◌-◌, ◌<◌, ◌≤◌, max, Bool, true, false, cond, ltb, leb, eqb, List, [], ◌∷◌, ◌++◌, map, length, refl, sym, ◌∙◌, ap, subst, inl, inr, arith, length-append, append_assoc, ◌⊎◌, add-one, add-zero, zero-add}
-use Rattle.std.specs.Prelude.{filter, sum_by, flat_map, zip, slice_get, option_to_list, replicate}
+use Rattle.std.proofs.Common.{◌≡◌, ℕ, zero, suc, ◌+◌, ◌-◌, ◌<◌, ◌≤◌, max, Bool, true, false, cond, ltb, leb, eqb, List, [], ◌∷◌, ◌++◌, map, length, refl, sym, ◌∙◌, ap, subst, inl, inr, arith, length-append, append_assoc, ◌⊎◌, add-one, add-zero, zero-add, filter, sum_by, flat_map, zip, slice_get, option_to_list, replicate}
 use Rattle.std.specs.List.{range_with_len, enumerate_from}
 use Rattle.std.proofs.lemmas.Bool.{leb-false, ne_eqb, eq-eqb, cond-true, lt-ltb, le-ltb, cases_order, lt-leb, le-leb, leb-true}
 use Rattle.std.proofs.lemmas.List.{length-replicate}

@@ -1,6 +1,5 @@
 -- The steps of `pad` along the list.
-use Rattle.std.proofs.Common.{◌≡◌, ℕ, zero, suc, ◌+◌, ◌-◌, ◌<◌, ◌≤◌, true, List, [], ◌∷◌, ◌++◌, length, drop, refl, sym, ◌∙◌, ap, arith, length-append, append_assoc, append-nil, add-one, add-zero, map}
-use Rattle.std.specs.Prelude.{flat_map, slice_get, option_to_list, replicate, Option, Some, None}
+use Rattle.std.proofs.Common.{◌≡◌, ℕ, zero, suc, ◌+◌, ◌-◌, ◌<◌, ◌≤◌, true, List, [], ◌∷◌, ◌++◌, length, drop, refl, sym, ◌∙◌, ap, arith, length-append, append_assoc, append-nil, add-one, add-zero, map, flat_map, slice_get, option_to_list, replicate, Option, Some, None}
 use Rattle.std.specs.List.{range_with_len, enumerate_from}
 use mathlib.Core.Path.{ap₂}
 use Rattle.fx_fixed.specs.Extents.{largest}

@@ -1,6 +1,5 @@
 -- The steps of a pad.
-use Rattle.std.proofs.Common.{◌≡◌, ℕ, ℤ, zero, suc, ◌+◌, ◌-◌, ◌<◌, ◌≤◌, ◌^◌, Bool, true, false, ◌&&◌, ◌⊎◌, inl, inr, List, [], ◌∷◌, ◌++◌, map, length, drop, refl, sym, ◌∙◌, ap, arith, length-append, append-nil, sub-one}
-use Rattle.std.specs.Prelude.{Option, Some, None, option_to_list, is_none, nat_eq, nat_lt, filter, replicate, slice_get, sum_by}
+use Rattle.std.proofs.Common.{◌≡◌, ℕ, ℤ, zero, suc, ◌+◌, ◌-◌, ◌<◌, ◌≤◌, ◌^◌, Bool, true, false, ◌&&◌, ◌⊎◌, inl, inr, List, [], ◌∷◌, ◌++◌, map, length, drop, refl, sym, ◌∙◌, ap, arith, length-append, append-nil, sub-one, Option, Some, None, option_to_list, is_none, nat_eq, nat_lt, filter, replicate, slice_get, sum_by}
 use Rattle.std.specs.Int.{w32}
 use Rattle.std.proofs.lemmas.Bool.{false≢true, and_parts, cases_lt, eqb-true}
 use Rattle.std.proofs.lemmas.List.{length-replicate}

@@ -1,6 +1,5 @@
 -- A pad that comes back from its frames and numbers.
-use Rattle.std.proofs.Common.{◌≡◌, ℕ, ℤ, zero, suc, ◌+◌, ◌-◌, ◌<◌, ◌≤◌, ◌^◌, min, Bool, true, false, cond, List, [], ◌∷◌, ◌++◌, length, refl, sym, ◌∙◌, ap, arith, length-append, append-nil, inl, inr, ◌⊎◌, map}
-use Rattle.std.specs.Prelude.{Option, Some, None, option_to_list, nat_eq, nat_lt, replicate, slice_index_or, sum_by, filter}
+use Rattle.std.proofs.Common.{◌≡◌, ℕ, ℤ, zero, suc, ◌+◌, ◌-◌, ◌<◌, ◌≤◌, ◌^◌, min, Bool, true, false, cond, List, [], ◌∷◌, ◌++◌, length, refl, sym, ◌∙◌, ap, arith, length-append, append-nil, inl, inr, ◌⊎◌, map, Option, Some, None, option_to_list, nat_eq, nat_lt, replicate, slice_index_or, sum_by, filter}
 use Rattle.std.proofs.lemmas.Bool.{cases_lt, le-ltb}
 use mathlib.Core.Path.{ap₂}
 use Rattle.std.proofs.lemmas.List.{length-replicate, nil_from_length}

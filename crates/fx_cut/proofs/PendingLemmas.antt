@@ -1,6 +1,5 @@
 -- A frame in hand, or none.
-use Rattle.std.proofs.Common.{◌≡◌, ◌≤◌, true, [], length, refl, arith}
-use Rattle.std.specs.Prelude.{Option, Some, None, option_to_list, is_none}
+use Rattle.std.proofs.Common.{◌≡◌, ◌≤◌, true, [], length, refl, arith, Option, Some, None, option_to_list, is_none}
 use Rattle.fx_frame_base.specs.Frame.{Samples}
 
 pub none_of : (pending : Option Samples) → is_none pending ≡ true → pending ≡ None

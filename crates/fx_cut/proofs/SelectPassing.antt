@@ -1,6 +1,5 @@
 -- A frame that is passed to a stage that sifts frames.
-use Rattle.std.proofs.Common.{◌≡◌, ◌+◌, ◌-◌, ◌<◌, ◌≤◌, ◌^◌, true, false, [], ◌∷◌, length, map, refl, subst, sym, ap, arith, length-append, ℤ}
-use Rattle.std.specs.Prelude.{Some, None, option_to_list, is_none}
+use Rattle.std.proofs.Common.{◌≡◌, ◌+◌, ◌-◌, ◌<◌, ◌≤◌, ◌^◌, true, false, [], ◌∷◌, length, map, refl, subst, sym, ap, arith, length-append, ℤ, Some, None, option_to_list, is_none}
 use Rattle.std.specs.Int.{w32}
 use Rattle.fx_frame_base.specs.declared.feed.Passing.TheVariants.{Kept, Through}
 use Rattle.fx_frame_base.specs.Feed.{GaveNext, IsHeld, PassedOn, TookNext}

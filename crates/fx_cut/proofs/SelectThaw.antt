@@ -1,7 +1,6 @@
 -- A stage that sifts frames comes back from its frames and numbers.
-use Rattle.std.proofs.Common.{◌≡◌, ℕ, ℤ, ◌+◌, ◌-◌, ◌≤◌, ◌^◌, Bool, List, length, sym, ◌∙◌, ap, arith, length-append}
+use Rattle.std.proofs.Common.{◌≡◌, ℕ, ℤ, ◌+◌, ◌-◌, ◌≤◌, ◌^◌, Bool, List, length, sym, ◌∙◌, ap, arith, length-append, Option, option_to_list, nat_eq, slice_index_or}
 use Rattle.std.proofs.lemmas.List.{nil_from_length}
-use Rattle.std.specs.Prelude.{Option, option_to_list, nat_eq, slice_index_or}
 use Rattle.fx_frame_base.specs.Frame.{Samples}
 use Rattle.fx_frame.specs.Frozen.{IsStored}
 use Rattle.fx_frame_line.specs.Line.{Frames}

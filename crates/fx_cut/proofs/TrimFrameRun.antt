@@ -1,6 +1,5 @@
 -- Up to the next position frames are alike.
-use Rattle.std.proofs.Common.{◌≡◌, ◌+◌, ◌<◌, ◌≤◌, ◌%◌, ℕ, max, true, false, cond, leb, eqb, List, ◌∷◌, length, drop, get_or, ap, ◌∙◌, arith}
-use Rattle.std.specs.Prelude.{count_by}
+use Rattle.std.proofs.Common.{◌≡◌, ◌+◌, ◌<◌, ◌≤◌, ◌%◌, ℕ, max, true, false, cond, leb, eqb, List, ◌∷◌, length, drop, get_or, ap, ◌∙◌, arith, count_by}
 use Rattle.std.proofs.lemmas.Bool.{le-leb, lt-leb}
 use Rattle.std.proofs.lemmas.List.{drop_more, drop_all}
 use Rattle.fx_fixed.specs.Positions.{places_after, places_of}

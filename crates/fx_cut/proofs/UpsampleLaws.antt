@@ -1,6 +1,5 @@
 -- The frames that `upsample` gives, along the list.
-use Rattle.std.proofs.Common.{ℕ, zero, suc, ◌+◌, ◌-◌, ◌*◌, ◌<◌, ◌≡◌, List, ◌∷◌, ◌++◌, length, refl, sym, ap, ◌∙◌, arith, replicate, zero-add, add-one, sub-one, Option, Some, None, false, true, ◌&&◌, nat_eq, map, option_to_list}
-use Rattle.std.specs.Prelude.{is_none}
+use Rattle.std.proofs.Common.{ℕ, zero, suc, ◌+◌, ◌-◌, ◌*◌, ◌<◌, ◌≡◌, List, ◌∷◌, ◌++◌, length, refl, sym, ap, ◌∙◌, arith, replicate, zero-add, add-one, sub-one, Option, Some, None, false, true, ◌&&◌, nat_eq, map, option_to_list, is_none}
 use Rattle.std.proofs.Math.Nat.{mod-eq_of_lt, div-eq_of_lt, add-mod_left, add-div_left}
 use Rattle.std.proofs.lemmas.List.{length-replicate}
 use Rattle.fx_frame_base.specs.Stage.{Gave, Took, Given}

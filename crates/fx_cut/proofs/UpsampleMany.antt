@@ -1,6 +1,5 @@
 -- Frames, each with the silence behind it.
-use Rattle.std.proofs.Common.{◌≡◌, ◌+◌, ◌-◌, ◌*◌, ◌/◌, ◌<◌, ◌≤◌, ◌^◌, ℕ, ℤ, zero, suc, true, false, List, [], ◌∷◌, ◌++◌, length, take, drop, replicate, refl, sym, ap, ◌∙◌, arith, add-one, add-zero, append-nil, append_assoc, length-drop}
-use Rattle.std.specs.Prelude.{Some, None, option_to_list, pos}
+use Rattle.std.proofs.Common.{◌≡◌, ◌+◌, ◌-◌, ◌*◌, ◌/◌, ◌<◌, ◌≤◌, ◌^◌, ℕ, ℤ, zero, suc, true, false, List, [], ◌∷◌, ◌++◌, length, take, drop, replicate, refl, sym, ap, ◌∙◌, arith, add-one, add-zero, append-nil, append_assoc, length-drop, Some, None, option_to_list, pos}
 use Rattle.std.proofs.lemmas.List.{drop-drop, drop-replicate, drop_at, length-take-le, take-replicate, take_at}
 use Rattle.std.proofs.Math.Nat.{add-mul, mul-le-mul_right, suc-mul}
 use Rattle.fx_frame_base.specs.Feed.{Fed, GaveNext, TookNext, TookWithinSpace, nothing, taken, given}

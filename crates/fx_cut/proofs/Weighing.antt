@@ -1,6 +1,5 @@
 -- A sample times a weight of at most 1, which is not clipped, is the sample where the weight is 1.
-use Rattle.std.proofs.Common.{◌≡◌, ℕ, ℤ, suc, pos, negsuc, ◌+◌, ◌*◌, ◌/◌, ◌<◌, ◌≤◌, ◌^◌, false, true, refl, ap, ◌∙◌, sym, arith, List, [], ◌∷◌, map, length, take, get_or, set, Bool, min, ◌-◌, ◌*ℤ◌, to_z, of_z}
-use Rattle.std.specs.Prelude.{FitsSigned, count_by, unsigned_abs}
+use Rattle.std.proofs.Common.{◌≡◌, ℕ, ℤ, suc, pos, negsuc, ◌+◌, ◌*◌, ◌/◌, ◌<◌, ◌≤◌, ◌^◌, false, true, refl, ap, ◌∙◌, sym, arith, List, [], ◌∷◌, map, length, take, get_or, set, Bool, min, ◌-◌, ◌*ℤ◌, to_z, of_z, FitsSigned, count_by, unsigned_abs}
 use Rattle.std.specs.Int.{w32, w64}
 use Rattle.std.specs.List.{All}
 use Rattle.std.proofs.Math.Nat.{mul-le-mul}

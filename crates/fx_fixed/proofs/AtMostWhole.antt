@@ -1,6 +1,5 @@
 -- A sample times a weight of at most 1 is not clipped.
-use Rattle.std.proofs.Common.{◌≡◌, ℕ, ℤ, zero, suc, pos, negsuc, ◌+◌, ◌*◌, ◌*ℤ◌, ◌/◌, ◌<◌, ◌≤◌, ◌^◌, false, true, refl, ap, ◌∙◌, arith}
-use Rattle.std.specs.Prelude.{FitsSigned, not}
+use Rattle.std.proofs.Common.{◌≡◌, ℕ, ℤ, zero, suc, pos, negsuc, ◌+◌, ◌*◌, ◌*ℤ◌, ◌/◌, ◌<◌, ◌≤◌, ◌^◌, false, true, refl, ap, ◌∙◌, arith, FitsSigned, not}
 use Rattle.std.specs.Int.{w32}
 use Rattle.std.proofs.Math.Nat.{mul-le-mul_left}
 use Rattle.std.proofs.lemmas.Int.{ints}

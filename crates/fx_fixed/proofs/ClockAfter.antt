@@ -1,6 +1,5 @@
 -- Clock times of which some components were read before.
-use Rattle.std.proofs.Common.{ℕ, ◌+◌, ◌*◌, Bool, ◌&&◌, List, length, Err}
-use Rattle.std.specs.Prelude.{nat_lt, ◌==◌, sum_by, fold, if◌then◌else◌, Result}
+use Rattle.std.proofs.Common.{ℕ, ◌+◌, ◌*◌, Bool, ◌&&◌, List, length, Err, nat_lt, ◌==◌, sum_by, fold, if◌then◌else◌, Result}
 use Rattle.std.specs.List.{list_all}
 use Rattle.std.specs.Str.Parse.{digits_value}
 use Rattle.fx_fixed.specs.Clock.{components_of, fraction_of, clock_frames_of, is_short, tail_of, within_reach}

@@ -1,6 +1,5 @@
 -- A number over a power of ten, where that is whole.
-use Rattle.std.proofs.Common.{length-append, Bool, true, List, ◌++◌, length, ◌≡◌, ℕ, zero, suc, ◌+◌, ◌-◌, ◌*◌, ◌/◌, ◌%◌, ◌^◌, ◌<◌, ◌≤◌, false, ap, ◌∙◌, sym, refl, arith, Err}
-use Rattle.std.specs.Prelude.{min, not, ◌&&◌, ◌||◌, nat_lt, ◌==◌, if◌then◌else◌}
+use Rattle.std.proofs.Common.{length-append, Bool, true, List, ◌++◌, length, ◌≡◌, ℕ, zero, suc, ◌+◌, ◌-◌, ◌*◌, ◌/◌, ◌%◌, ◌^◌, ◌<◌, ◌≤◌, false, ap, ◌∙◌, sym, refl, arith, Err, min, not, ◌&&◌, ◌||◌, nat_lt, ◌==◌, if◌then◌else◌}
 use Rattle.std.proofs.Math.Nat.{mul-mod_left, mul-div_left, mul-le-mul_left, mul-div-mul_right, div-add-mod', zero-mul, mod-eq_of_lt}
 use Rattle.std.proofs.lemmas.Nat.{mod-mul-add, mod_below, pow-add}
 use Rattle.std.proofs.lemmas.Bool.{and_from, and_parts, lt-ltb}

@@ -1,6 +1,6 @@
 -- A run of digits in front changes where a text is cut by nothing but itself.
-use Rattle.std.proofs.Common.{◌≡◌, ℕ, ◌+◌, Bool, true, false, not, ◌&&◌, ◌||◌, List, [], ◌∷◌, ◌++◌, length, drop, ap, ◌∙◌, sym, refl, arith, IsTrue, one-add, ◌-◌, append-nil, length-take, length-drop}
-use Rattle.std.specs.Prelude.{nat_lt, IsSome, IfSome, ⊤, Option, Some, None, ◌↔◌}
+use Rattle.std.proofs.Common.{◌≡◌, ℕ, ◌+◌, Bool, true, false, not, ◌&&◌, ◌||◌, List, [], ◌∷◌, ◌++◌, length, drop, ap, ◌∙◌, sym, refl, arith, IsTrue, one-add, ◌-◌, append-nil, length-take, length-drop, nat_lt, IsSome, IfSome, Option, Some, None, ◌↔◌}
+use Rattle.std.specs.Prelude.{⊤}
 use Rattle.std.specs.Char.{is_ascii_digit}
 use Rattle.std.specs.Str.{all_ascii_digits}
 use Rattle.std.specs.List.{before_first, after_first, list_any, prefix_len, take_while}

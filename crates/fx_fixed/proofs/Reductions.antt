@@ -1,6 +1,5 @@
 -- Common divisors of many products, and fractions reduced by them.
-use Rattle.std.proofs.Common.{◌≡◌, ℕ, zero, suc, ◌+◌, ◌*◌, ◌%◌, ◌<◌, List, get_or, length, set, Bool, true, false, ap, ◌∙◌, refl, arith, ℤ, pos, negsuc, ◌*ℤ◌}
-use Rattle.std.specs.Prelude.{nat_eq}
+use Rattle.std.proofs.Common.{◌≡◌, ℕ, zero, suc, ◌+◌, ◌*◌, ◌%◌, ◌<◌, List, get_or, length, set, Bool, true, false, ap, ◌∙◌, refl, arith, ℤ, pos, negsuc, ◌*ℤ◌, nat_eq}
 use Rattle.std.specs.Int.{IsGcd}
 use Rattle.std.proofs.lemmas.Bool.Decides.{nat_tests}
 use Rattle.std.proofs.lemmas.Grind.{get_or-set_at}

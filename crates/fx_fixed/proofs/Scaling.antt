@@ -1,6 +1,5 @@
 -- A product divided by 64-bit steps is the product divided at once.
-use Rattle.std.proofs.Common.{◌≡◌, ℕ, ◌+◌, ◌*◌, ◌/◌, ◌%◌, ◌<◌, ap, ◌∙◌, refl, arith, ℤ, pos, ◌*ℤ◌, not}
-use Rattle.std.specs.Prelude.{int_lt, unsigned_abs}
+use Rattle.std.proofs.Common.{◌≡◌, ℕ, ◌+◌, ◌*◌, ◌/◌, ◌%◌, ◌<◌, ap, ◌∙◌, refl, arith, ℤ, pos, ◌*ℤ◌, not, int_lt, unsigned_abs}
 use Rattle.std.specs.Bool.{beq}
 use Rattle.std.proofs.Math.Nat.{mul-add-div, div-add-mod'}
 use Rattle.fx_fixed.specs.Rounding.{nearest_natural, signed, clipping, rounding}

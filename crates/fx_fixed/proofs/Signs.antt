@@ -1,6 +1,5 @@
 -- The sign of a rounded product.
-use Rattle.std.proofs.Common.{◌≡◌, ℕ, zero, suc, ◌*◌, ◌<◌, refl, arith, ℤ, pos, negsuc, neg_ℤ, ◌*ℤ◌, not, false, ltb, true}
-use Rattle.std.specs.Prelude.{int_lt, unsigned_abs}
+use Rattle.std.proofs.Common.{◌≡◌, ℕ, zero, suc, ◌*◌, ◌<◌, refl, arith, ℤ, pos, negsuc, neg_ℤ, ◌*ℤ◌, not, false, ltb, true, int_lt, unsigned_abs}
 use Rattle.std.specs.Bool.{beq}
 use Rattle.std.proofs.lemmas.Bool.Decides.{nat_tests}
 use Rattle.std.proofs.Math.Nat.{div-eq_of_lt}

@@ -1,6 +1,5 @@
 -- A time specification is its first term, and then the later ones.
-use Rattle.std.proofs.Common.{◌≡◌, ℕ, ◌+◌, ◌-◌, ◌*◌, ◌/◌, ◌%◌, ◌^◌, ◌++◌, length-take, Option, Some, None, ◌≤◌, Bool, true, false, not, ◌&&◌, List, [], ◌∷◌, length, take, drop, ap, ◌∙◌, sym, refl, arith, one-add, length-drop, Result, Ok, Err}
-use Rattle.std.specs.Prelude.{◌==◌, IfOk, if◌then◌else◌, nat_eq, nat_lt, sum_by}
+use Rattle.std.proofs.Common.{◌≡◌, ℕ, ◌+◌, ◌-◌, ◌*◌, ◌/◌, ◌%◌, ◌^◌, ◌++◌, length-take, Option, Some, None, ◌≤◌, Bool, true, false, not, ◌&&◌, List, [], ◌∷◌, length, take, drop, ap, ◌∙◌, sym, refl, arith, one-add, length-drop, Result, Ok, Err, ◌==◌, IfOk, if◌then◌else◌, nat_eq, nat_lt, sum_by}
 use Rattle.std.specs.List.{list_all}
 use Rattle.std.specs.Option.{option_or}
 use Rattle.std.specs.Result.{result_err}

@@ -1,6 +1,5 @@
 -- The eight numbers that a stage counted.
-use Rattle.std.proofs.Common.{ℕ, zero, suc, ◌≡◌, ◌≤◌, ◌*◌, Bool, true, false, cond, List, [], ◌∷◌, length, refl, arith}
-use Rattle.std.specs.Prelude.{nat_eq, slice_index_or}
+use Rattle.std.proofs.Common.{ℕ, zero, suc, ◌≡◌, ◌≤◌, ◌*◌, Bool, true, false, cond, List, [], ◌∷◌, length, refl, arith, nat_eq, slice_index_or}
 
 -- eight numbers are the one at each place
 pub eight-numbers : (ns : List ℕ) → length ns ≡ 8

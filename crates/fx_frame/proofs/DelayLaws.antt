@@ -1,5 +1,4 @@
-use Rattle.std.proofs.Common.{ℕ, ℤ, pos, zero, suc, ◌+◌, ◌-◌, ◌<◌, ◌≤◌, ◌≡◌, Bool, true, false, cond, List, [], ◌∷◌, ◌++◌, length, drop, get_or, refl, sym, arith, replicate, add-zero, zero-add, append_assoc}
-use Rattle.std.specs.Prelude.{nat_le, nat_lt, slice_get, unwrap_or, Option, Some, None}
+use Rattle.std.proofs.Common.{ℕ, ℤ, pos, zero, suc, ◌+◌, ◌-◌, ◌<◌, ◌≤◌, ◌≡◌, Bool, true, false, cond, List, [], ◌∷◌, ◌++◌, length, drop, get_or, refl, sym, arith, replicate, add-zero, zero-add, append_assoc, nat_le, nat_lt, slice_get, unwrap_or, Option, Some, None}
 use borrow.Author.Tests.{ltb-true, ltb-false}
 use Rattle.std.proofs.Math.ListN.{set}
 use Rattle.std.proofs.Math.Seq.{set-append_seam}

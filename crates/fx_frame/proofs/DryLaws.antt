@@ -1,6 +1,5 @@
 -- Whether a stage with a frame in hand, and frames to come after it, has something to give.
-use Rattle.std.proofs.Common.{ℕ, zero, suc, ◌<◌, ◌≡◌, true, false, refl, arith}
-use Rattle.std.specs.Prelude.{Option, Some, None, is_none, nat_eq, ◌&&◌}
+use Rattle.std.proofs.Common.{ℕ, zero, suc, ◌<◌, ◌≡◌, true, false, refl, arith, Option, Some, None, is_none, nat_eq, ◌&&◌}
 use Prim.Native.Nat.compare
 use Rattle.fx_frame_base.specs.Frame.{Samples}
 

@@ -1,6 +1,5 @@
 -- Samples that lie one after another, in frames.
-use Rattle.std.proofs.Common.{◌≡◌, ℕ, zero, suc, Bool, List, ◌∷◌, map, take, drop, refl, ap, ◌∙◌, ◌+◌, ◌*◌, cond, ◌++◌, arith, ◌≤◌, length, length-drop}
-use Rattle.std.specs.Prelude.{ℤ}
+use Rattle.std.proofs.Common.{◌≡◌, ℕ, zero, suc, Bool, List, ◌∷◌, map, take, drop, refl, ap, ◌∙◌, ◌+◌, ◌*◌, cond, ◌++◌, arith, ◌≤◌, length, length-drop, ℤ}
 use Rattle.std.proofs.lemmas.List.{take-map, drop-map, map-append, length-take-le}
 use Rattle.fx_frame_base.specs.Lists.{pieces}
 use Rattle.fx_frame.specs.Made.{made_of, clips_in, rounded_given}

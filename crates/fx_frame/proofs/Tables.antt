@@ -1,9 +1,8 @@
 -- Frames of places, channel by channel.
-use Rattle.std.proofs.Common.{◌≡◌, ◌+◌, ◌<◌, ℕ, suc, List, [], ◌∷◌, length, map, get_or, refl, ap, arith, add-zero, ℤ, zero, Bool, pos, ◌≤◌, take, drop, ◌∙◌, ◌*◌, ◌++◌, sym, zero-add, subst}
+use Rattle.std.proofs.Common.{◌≡◌, ◌+◌, ◌<◌, ℕ, suc, List, [], ◌∷◌, length, map, get_or, refl, ap, arith, add-zero, ℤ, zero, Bool, pos, ◌≤◌, take, drop, ◌∙◌, ◌*◌, ◌++◌, sym, zero-add, subst, cond}
 use Rattle.fx_frame_base.specs.Lists.{tabulate, pieces}
 use Rattle.fx_frame_base.specs.Rounded.{samples_of, clips_rounded}
 use Rattle.fx_frame_base.specs.Holds.{total}
-use Rattle.std.specs.Prelude.{cond}
 use Rattle.std.proofs.lemmas.List.Sums.{sum_by-cons}
 use Rattle.fx_frame_base.proofs.Rounds.{clips_of-next}
 use Rattle.std.proofs.lemmas.List.{drop_more}

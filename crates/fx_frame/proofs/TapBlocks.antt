@@ -1,6 +1,5 @@
 -- Frames that lie one after another, each made of itself and of those before it.
-use Rattle.std.proofs.Common.{◌≡◌, ◌+◌, ◌-◌, ◌*◌, ◌≤◌, ℕ, ℤ, false, List, [], ◌∷◌, ◌++◌, length, map, min, refl, sym, ap, ◌∙◌, arith, add-zero, append-nil, append_assoc, length-append, length-drop, subst, replicate, get_or, pos, slice_set}
-use Rattle.std.specs.Prelude.{None, Some, ◌^◌}
+use Rattle.std.proofs.Common.{◌≡◌, ◌+◌, ◌-◌, ◌*◌, ◌≤◌, ℕ, ℤ, false, List, [], ◌∷◌, ◌++◌, length, map, min, refl, sym, ap, ◌∙◌, arith, add-zero, append-nil, append_assoc, length-append, length-drop, subst, replicate, get_or, pos, slice_set, None, Some, ◌^◌}
 use Rattle.std.specs.Int.{w32}
 use Rattle.std.proofs.Math.Nat.{add-mul}
 use Rattle.std.specs.List.{All}

@@ -1,7 +1,6 @@
 -- The steps of a stage that makes each frame of that frame and of those before it.
-use Rattle.std.proofs.Common.{ℕ, ℤ, pos, zero, suc, ◌+◌, ◌-◌, ◌<◌, ◌≤◌, ◌≡◌, true, false, cond, List, [], ◌∷◌, ◌++◌, length, drop, refl, sym, ap, ◌∙◌, min, arith, replicate, append_assoc, sub-one}
+use Rattle.std.proofs.Common.{ℕ, ℤ, pos, zero, suc, ◌+◌, ◌-◌, ◌<◌, ◌≤◌, ◌≡◌, true, false, cond, List, [], ◌∷◌, ◌++◌, length, drop, refl, sym, ap, ◌∙◌, min, arith, replicate, append_assoc, sub-one, option_to_list, nat_le, Some, None, ◌^◌}
 use Rattle.std.proofs.lemmas.Bool.{true_from_ne_false}
-use Rattle.std.specs.Prelude.{option_to_list, nat_le, Some, None, ◌^◌}
 use Rattle.std.specs.Int.{w32}
 use Rattle.std.proofs.lemmas.List.{length-append, length-drop, length-replicate, drop-append-le}
 use Rattle.fx_frame_base.specs.Frame.{Samples, silence, IsFrame}

@@ -1,6 +1,5 @@
 -- A stage that was fed in two calls, the second behind the first, was fed as in one.
-use Rattle.std.proofs.Common.{◌≡◌, ◌+◌, ◌*◌, ◌≤◌, ℕ, List, ◌++◌, length, take, drop, sym, arith, length-append}
-use Rattle.std.specs.Prelude.{ℤ}
+use Rattle.std.proofs.Common.{◌≡◌, ◌+◌, ◌*◌, ◌≤◌, ℕ, List, ◌++◌, length, take, drop, sym, arith, length-append, ℤ}
 use Rattle.std.proofs.lemmas.List.{drop_at, length-take-le, take_at}
 use Rattle.fx_frame_base.specs.Feed.{Fed}
 use Rattle.fx_frame_base.specs.Lists.{pieces}

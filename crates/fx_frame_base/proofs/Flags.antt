@@ -1,6 +1,5 @@
 -- What tests and flags say as numbers and options.
-use Rattle.std.proofs.Common.{◌≡◌, ◌≤◌, Bool, true, false, cond, refl, arith}
-use Rattle.std.specs.Prelude.{Option, Some, None, is_some}
+use Rattle.std.proofs.Common.{◌≡◌, ◌≤◌, Bool, true, false, cond, refl, arith, Option, Some, None, is_some}
 
 -- nothing is waiting
 pub none-of : {X : Type 0} (o : Option X) → is_some o ≡ false → o ≡ None

@@ -1,6 +1,5 @@
 -- Samples that are read and written at their places.
-use Rattle.std.proofs.Common.{ℕ, ◌++◌, pos, zero, suc, ◌≡◌, get_or, refl, replicate, take, ◌<◌, List, [], ◌∷◌, length, arith, ℤ, ◌+◌, ◌*◌, Bool, true, false, ◌∙◌}
-use Rattle.std.specs.Prelude.{nat_eq}
+use Rattle.std.proofs.Common.{ℕ, ◌++◌, pos, zero, suc, ◌≡◌, get_or, refl, replicate, take, ◌<◌, List, [], ◌∷◌, length, arith, ℤ, ◌+◌, ◌*◌, Bool, true, false, ◌∙◌, nat_eq}
 use Rattle.std.proofs.lemmas.Bool.Decides.{nat_tests}
 
 pub zeros-sample : (channels k : ℕ) → get_or (replicate channels (pos 0)) k (pos 0) ≡ pos 0

@@ -1,6 +1,5 @@
 -- A stage that was fed frames for which none is due.
-use Rattle.std.proofs.Common.{ℕ, ◌+◌, ◌*◌, ◌<◌, ◌≤◌, ◌≡◌, false, List, [], ◌∷◌, ◌++◌, length, refl, sym, ap, ◌∙◌, arith, length-append, inl, inr, add-one, subst}
-use Rattle.std.specs.Prelude.{ℤ}
+use Rattle.std.proofs.Common.{ℕ, ◌+◌, ◌*◌, ◌<◌, ◌≤◌, ◌≡◌, false, List, [], ◌∷◌, ◌++◌, length, refl, sym, ap, ◌∙◌, arith, length-append, inl, inr, add-one, subst, ℤ}
 use Rattle.std.proofs.Math.Bool.{and-false}
 use Rattle.std.proofs.Math.Nat.{eq-or-lt_of_le, le_of_mul-le-mul_right, lt_of_mul-lt-mul_right, suc-mul}
 use Rattle.fx_frame_base.specs.Feed.{Fed, IsNoneDue, TookAll, TookNext, nothing, taken, given}

@@ -1,6 +1,5 @@
 -- What is read from words, or the first of their faults.
-use Rattle.std.proofs.Common.{◌≡◌, List, []}
-use Rattle.std.specs.Prelude.{Result, Ok, Err, IfOk}
+use Rattle.std.proofs.Common.{◌≡◌, List, [], Result, Ok, Err, IfOk}
 use Rattle.fx_plan_words.specs.declared.fault.Mark.{Mark}
 use Rattle.fx_plan_words.specs.declared.fault.WordsRefusal.{WordsRefusal}
 use Rattle.fx_plan_words.specs.declared.fault.WordsRefusal.TheVariants as refusals

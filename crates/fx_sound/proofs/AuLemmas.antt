@@ -1,6 +1,5 @@
 -- The head of an AU sound, from what was read of it.
-use Rattle.std.proofs.Common.{◌≡◌, ℕ, ◌+◌, ◌-◌, ◌<◌, ◌≤◌, inl, inr, List, length, take, true, false, refl, sym, ap, ◌∙◌, arith, nat_lt}
-use Rattle.std.specs.Prelude.{Ok, Err, Result}
+use Rattle.std.proofs.Common.{◌≡◌, ℕ, ◌+◌, ◌-◌, ◌<◌, ◌≤◌, inl, inr, List, length, take, true, false, refl, sym, ap, ◌∙◌, arith, nat_lt, Ok, Err, Result}
 use Rattle.std.proofs.lemmas.Bool.{cases_lt}
 use Rattle.std.proofs.lemmas.List.{take_all, length-take, take-take}
 use Rattle.std.proofs.lemmas.Grind.{common_steps}

@@ -1,6 +1,5 @@
 -- A WAVE head that is a row of chunks is read as such.
-use Rattle.std.proofs.Common.{◌≡◌, ℕ, suc, ◌+◌, ◌-◌, ◌*◌, ◌%◌, ◌≤◌, min, List, [], ◌∷◌, ◌++◌, All, flat_map, length, take, drop, false, refl, sym, ap, ◌∙◌, arith, nat_lt}
-use Rattle.std.specs.Prelude.{Ok, Option, None, Some, codes}
+use Rattle.std.proofs.Common.{◌≡◌, ℕ, suc, ◌+◌, ◌-◌, ◌*◌, ◌%◌, ◌≤◌, min, List, [], ◌∷◌, ◌++◌, All, flat_map, length, take, drop, false, refl, sym, ap, ◌∙◌, arith, nat_lt, Ok, Option, None, Some, codes}
 use Rattle.std.specs.Int.{w32, from_le_bytes}
 use Rattle.std.proofs.lemmas.List.{append_assoc, length-append, take-append-le, take_min}
 use Rattle.std.proofs.Math.Seq.{drop-append_seam, take-append_seam}

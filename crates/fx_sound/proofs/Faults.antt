@@ -1,6 +1,5 @@
 -- What is said of a fault that a call passes on, and of a result that is answered as it is.
-use Rattle.std.proofs.Common.{◌≡◌, sym, refl, subst}
-use Rattle.std.specs.Prelude.{Result, Ok, Err, IfOk, IfErr}
+use Rattle.std.proofs.Common.{◌≡◌, sym, refl, subst, Result, Ok, Err, IfOk, IfErr}
 use Rattle.std.specs.Result.{IsErrAnd}
 
 -- what is said of a fault is said of one that is passed on

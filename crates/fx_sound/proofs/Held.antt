@@ -1,9 +1,8 @@
 -- The part of a buffer that is held.
-use Rattle.std.proofs.Common.{◌≡◌, ℕ, ◌+◌, ◌-◌, ◌≤◌, List, ◌++◌, length, take, drop, refl, sym, ap, ◌∙◌, arith}
+use Rattle.std.proofs.Common.{◌≡◌, ℕ, ◌+◌, ◌-◌, ◌≤◌, List, ◌++◌, length, take, drop, refl, sym, ap, ◌∙◌, arith, Option, None, Some}
 use Rattle.std.proofs.lemmas.List.{drop-drop, drop-take, length-take, length-drop, length-append, take-append-drop, take_all, take_at, append_assoc, drop-append-le, take-append-le}
 use Rattle.std.specs.Io.KnownBytes.{Consumes, prepend_known}
 use Rattle.std.specs.List.{copy_within}
-use Rattle.std.specs.Prelude.{Option, None, Some}
 use borrow.Rule.Slice.PartMut.{put_mid}
 use Rattle.fx_sound.specs.Known.{IfKnown}
 use Rattle.fx_sound.specs.Source.{Held, to_come, Tells, Takes, Stays, HoldsFront, HoldsWhatCame}

@@ -1,6 +1,5 @@
 -- The end of a sound, met in the bytes that a source held after reads.
-use Rattle.std.proofs.Common.{◌≡◌, ℕ, ◌<◌, List, length, ◌∙◌, arith}
-use Rattle.std.specs.Prelude.{None, Option, IfNone, Some}
+use Rattle.std.proofs.Common.{◌≡◌, ℕ, ◌<◌, List, length, ◌∙◌, arith, None, Option, IfNone, Some}
 use Rattle.fx_frame_base.specs.Io.{ByteReader}
 use Rattle.fx_sound.specs.NextFrame.{HoldsRest, MetEnd, ReachesEnd}
 use Rattle.fx_sound.specs.Sound.{Reading, at_most_announced, size_of}

@@ -1,6 +1,5 @@
 -- Frames of a sound that are read one by one: laws for who calls `next_frame` in a loop.
-use Rattle.std.specs.Prelude.{◌≡◌, ℕ, zero, suc, true, ◌+◌, ◌-◌, ◌*◌, ◌/◌, ◌%◌, ◌<◌, ◌≤◌, min, List, [], ◌∷◌, ◌++◌, length, take, drop, map, Option, None, Some, refl}
-use Rattle.std.proofs.Common.{sym, ap, ◌∙◌, arith, add-one}
+use Rattle.std.proofs.Common.{sym, ap, ◌∙◌, arith, add-one, ◌≡◌, ℕ, zero, suc, true, ◌+◌, ◌-◌, ◌*◌, ◌/◌, ◌%◌, ◌<◌, ◌≤◌, min, List, [], ◌∷◌, ◌++◌, length, take, drop, map, Option, None, Some, refl}
 use Rattle.std.proofs.lemmas.List.{drop-drop, length-drop, length-take, map-append, take-take, drop-take}
 use Rattle.std.proofs.Math.Arith.{digits_div, digits_mod}
 use Rattle.fx_frame_base.specs.declared.coding.Coding.{Coding}

@@ -1,10 +1,9 @@
 -- What stays true while bytes go to a writer.
-use Rattle.std.proofs.Common.{◌≡◌, ℕ, ◌+◌, ◌-◌, ◌≤◌, List, [], ◌++◌, length, take, drop, sym, ap, ◌∙◌, arith}
+use Rattle.std.proofs.Common.{◌≡◌, ℕ, ◌+◌, ◌-◌, ◌≤◌, List, [], ◌++◌, length, take, drop, sym, ap, ◌∙◌, arith, Option}
 use Rattle.std.proofs.lemmas.List.{drop-drop, length-drop, length-append, length-take, length-take-le, drop-take, append_assoc, take_at, take-append-le, drop-append-le}
 use Rattle.std.proofs.Math.Seq.{take-add}
 use Rattle.std.proofs.KnownBytes.{Appends-trans, Appends-nil}
 use Rattle.std.specs.Io.KnownBytes.{Appends}
-use Rattle.std.specs.Prelude.{Option}
 use borrow.Rule.Slice.PartMut.{put_mid}
 use Rattle.fx_sound.specs.Output.{Pending, Sent}
 

@@ -1,6 +1,5 @@
 -- Four samples of three bytes, each in a lane of four bytes.
-use Rattle.std.proofs.Common.{◌≡◌, ◌<◌, ◌+◌, ◌-◌, ◌*◌, ◌/◌, ◌%◌, ◌^◌, ℕ, suc, ℤ, pos, negsuc, ◌+ℤ◌, Bool, true, false, cond, List, [], ◌∷◌, ◌++◌, length, take, map, get_or, refl, sym, ap, ◌∙◌, arith, inl, inr, ◌⊎◌, w32, w64, to_z, of_z, Fits, FitsSigned, rules}
-use Rattle.std.specs.Prelude.{count_by, reverse}
+use Rattle.std.proofs.Common.{◌≡◌, ◌<◌, ◌+◌, ◌-◌, ◌*◌, ◌/◌, ◌%◌, ◌^◌, ℕ, suc, ℤ, pos, negsuc, ◌+ℤ◌, Bool, true, false, cond, List, [], ◌∷◌, ◌++◌, length, take, map, get_or, refl, sym, ap, ◌∙◌, arith, inl, inr, ◌⊎◌, w32, w64, to_z, of_z, Fits, FitsSigned, rules, count_by, reverse}
 use Rattle.std.specs.Int.{cast_unsigned, int_min, int_wrap}
 use Rattle.std.specs.List.{flat_map}
 use Rattle.std.proofs.lemmas.Int.{clamps, int_wrap_fits, ints, to_z-of_z, to_z_pos, wrapping_add_onto}

@@ -1,7 +1,6 @@
 -- Samples that are not clipped on writing.
-use Rattle.std.proofs.Common.{◌≡◌, ◌/◌, ◌≤◌, false, refl, arith, ℤ, pos, negsuc, ◌+ℤ◌, ◌≤ℤ◌}
+use Rattle.std.proofs.Common.{◌≡◌, ◌/◌, ◌≤◌, false, refl, arith, ℤ, pos, negsuc, ◌+ℤ◌, ◌≤ℤ◌, int_lt}
 use Rattle.std.specs.Int.{int_div_euclid}
-use Rattle.std.specs.Prelude.{int_lt}
 use Rattle.std.proofs.lemmas.Bool.Decides.{nat_tests}
 use Rattle.std.proofs.lemmas.Int.{ints}
 use Rattle.fx_frame_base.specs.declared.coding.Coding.{Coding}

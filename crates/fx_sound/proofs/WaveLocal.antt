@@ -1,6 +1,5 @@
 -- A step depends on no byte behind its end.
-use Rattle.std.proofs.Common.{◌≡◌, ℕ, ◌+◌, ◌-◌, min, ◌<◌, ◌≤◌, inl, inr, List, length, take, drop, Bool, true, false, refl, ap, ◌∙◌, arith, nat_lt}
-use Rattle.std.specs.Prelude.{Ok, Err, Result, Option, Some, if◌then◌else◌}
+use Rattle.std.proofs.Common.{◌≡◌, ℕ, ◌+◌, ◌-◌, min, ◌<◌, ◌≤◌, inl, inr, List, length, take, drop, Bool, true, false, refl, ap, ◌∙◌, arith, nat_lt, Ok, Err, Result, Option, Some, if◌then◌else◌}
 use Rattle.fx_sound.specs.declared.fields.Format.{Format}
 use Rattle.fx_sound.specs.declared.wave.Demand.{Demand}
 use Rattle.fx_sound.specs.declared.wave.Demand.TheVariants as demand

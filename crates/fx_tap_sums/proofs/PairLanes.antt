@@ -1,5 +1,5 @@
 -- Products of numbers of 16 bits, two neighbours added up, lane by lane.
-use Rattle.std.proofs.Common.{◌≡◌, ℕ, zero, suc, sym, inl, inr, ◌⊎◌, ◌+◌, ◌-◌, ◌*◌, ◌/◌, ◌%◌, ◌^◌, ◌<◌, ◌≤◌, ap, ◌∙◌, refl, arith, ℤ, pos, negsuc, ◌*ℤ◌, ◌+ℤ◌, List, [], ◌∷◌, ◌++◌, to_z, of_z, w32, w64, FitsSigned, length, get_or, drop, take, replicate, map, unsigned_abs, w16}
+use Rattle.std.proofs.Common.{◌≡◌, ℕ, zero, suc, sym, inl, inr, ◌⊎◌, ◌+◌, ◌-◌, ◌*◌, ◌/◌, ◌%◌, ◌^◌, ◌<◌, ◌≤◌, ap, ◌∙◌, refl, arith, ℤ, pos, negsuc, ◌*ℤ◌, ◌+ℤ◌, List, [], ◌∷◌, ◌++◌, to_z, of_z, w32, w64, FitsSigned, length, get_or, drop, take, replicate, map, unsigned_abs, w16, ◌-ℤ◌}
 use Rattle.std.proofs.Math.Nat.{lt_of_mul-lt-mul_right}
 use Rattle.fx_tap_sums.proofs.Numbers.{add-mul}
 use Rattle.std.specs.Simd.Lanes.{Each1, Each2, chunk, zip2}
@@ -11,7 +11,6 @@ use Rattle.fx_tap_sums.specs.Lanes.{LanesWithin, WithinLane}
 use Rattle.fx_tap_sums.specs.Pairs.{EightHalves, FourFit, IsFloor, IsSplit, joined_halves, pair_product}
 use borrow.Rule.Simd.Lanes.{act1, act2, Asks1, Asks2}
 use borrow.Table.Row.{s_int}
-use Rattle.std.specs.Prelude.{◌-ℤ◌}
 use lib.Signed.{mag_shr, shr_z}
 use mir.Syntax.{Width, shr, add, sub, mul, cast, signed}
 

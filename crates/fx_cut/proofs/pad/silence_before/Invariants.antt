@@ -1,5 +1,4 @@
-use Rattle.std.proofs.Common.{◌≡◌, ◌≤◌, ◌+◌, drop}
-use Rattle.std.specs.Prelude.{sum_by, filter, nat_lt}
+use Rattle.std.proofs.Common.{◌≡◌, ◌≤◌, ◌+◌, drop, sum_by, filter, nat_lt}
 use Rattle.fx_cut.specs.Pad.{lengths, pads_from_start}
 use Rattle.fx_cut.proofs.pad.silence_before.Given as goal
 

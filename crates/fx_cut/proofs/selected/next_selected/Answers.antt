@@ -1,7 +1,6 @@
 -- The oldest frame is let go.
-use Rattle.std.proofs.Common.{◌≡◌, ◌≤◌, ◌+◌, ◌-◌, ◌∙◌, ◌++◌, [], ap, sym, arith, length, length-drop, map}
+use Rattle.std.proofs.Common.{◌≡◌, ◌≤◌, ◌+◌, ◌-◌, ◌∙◌, ◌++◌, [], ap, sym, arith, length, length-drop, map, option_to_list}
 use Rattle.fx_frame_base.proofs.Flags.{none-of}
-use Rattle.std.specs.Prelude.{option_to_list}
 use Rattle.fx_frame_base.specs.Given.{plain}
 use Rattle.fx_cut.specs.Selected.{selected_after}
 use Rattle.fx_cut.proofs.SelectSteps.{drained, given-popped}

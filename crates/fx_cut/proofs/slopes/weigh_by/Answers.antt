@@ -1,5 +1,4 @@
-use Rattle.std.proofs.Common.{◌≡◌, ◌<◌, ◌∙◌, ◌∷◌, ◌+◌, ℕ, sym, rules, arith, drop, get_or, length, pos, to_z, of_z, w32}
-use Rattle.std.specs.Prelude.{FitsSigned, List, ℤ}
+use Rattle.std.proofs.Common.{◌≡◌, ◌<◌, ◌∙◌, ◌∷◌, ◌+◌, ℕ, sym, rules, arith, drop, get_or, length, pos, to_z, of_z, w32, FitsSigned, List, ℤ}
 use Rattle.std.proofs.lemmas.List.Elements.{All-set}
 use Rattle.std.proofs.lemmas.List.{drop-set-lt, drop_more}
 use Rattle.fx_cut.specs.Fade.{weighted}

@@ -1,5 +1,4 @@
-use Rattle.std.proofs.Common.{ℕ, ◌≡◌, ◌+◌, ◌≤◌, drop}
-use Rattle.std.specs.Prelude.{count_by, nat_le}
+use Rattle.std.proofs.Common.{ℕ, ◌≡◌, ◌+◌, ◌≤◌, drop, count_by, nat_le}
 use Rattle.fx_fixed.specs.Positions.{places_after}
 use Rattle.fx_cut.specs.Trim.{starts}
 use Rattle.fx_cut.proofs.trim.frame_run_from.Given as goal

@@ -1,5 +1,4 @@
-use Rattle.std.proofs.Common.{◌≡◌, ◌+◌, ◌≤◌, drop}
-use Rattle.std.specs.Prelude.{count_by, nat_le}
+use Rattle.std.proofs.Common.{◌≡◌, ◌+◌, ◌≤◌, drop, count_by, nat_le}
 use Rattle.fx_fixed.specs.Positions.{places_after}
 use Rattle.fx_cut.proofs.trim.is_kept.Given as goal
 

@@ -1,6 +1,5 @@
-use Rattle.std.proofs.Common.{◌∙◌, ◌≡◌, arith, ap, ◌*ℤ◌}
+use Rattle.std.proofs.Common.{◌∙◌, ◌≡◌, arith, ap, ◌*ℤ◌, unsigned_abs, FitsSigned}
 use Rattle.std.proofs.lemmas.Grind.{common_steps}
-use Rattle.std.specs.Prelude.{unsigned_abs, FitsSigned}
 use Rattle.std.specs.Int.{w64}
 use Rattle.std.proofs.lemmas.Int.{fits_signed_from_abs, to_z-of_z}
 use Rattle.fx_fixed.specs.Rounding.{rounding}

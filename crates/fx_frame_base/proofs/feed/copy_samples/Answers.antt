@@ -1,6 +1,5 @@
-use Rattle.std.proofs.Common.{rules, ◌≡◌, ◌∙◌, get_or, of_z, to_z}
+use Rattle.std.proofs.Common.{rules, ◌≡◌, ◌∙◌, get_or, of_z, to_z, pos}
 use Rattle.std.specs.Int.{w32}
-use Rattle.std.specs.Prelude.{pos}
 use Rattle.fx_frame_base.proofs.Puts.{set-one, set-two}
 use Rattle.fx_frame_base.proofs.feed.copy_samples.Goals as goal
 

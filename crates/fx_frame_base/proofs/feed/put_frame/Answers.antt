@@ -1,6 +1,5 @@
-use Rattle.std.proofs.Common.{rules, ◌≡◌, ◌<◌, ◌∙◌, length, of_z, sym, to_z, arith}
+use Rattle.std.proofs.Common.{rules, ◌≡◌, ◌<◌, ◌∙◌, length, of_z, sym, to_z, arith, pos}
 use Rattle.std.specs.Int.{w32}
-use Rattle.std.specs.Prelude.{pos}
 use Rattle.fx_frame_base.proofs.Puts.{put-one}
 use Rattle.fx_frame_base.proofs.feed.put_frame.Goals as goal
 

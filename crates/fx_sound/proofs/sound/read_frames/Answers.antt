@@ -1,5 +1,4 @@
-use Rattle.std.proofs.Common.{◌≡◌, false, refl, ℕ, ◌+◌, ◌*◌, ◌++◌, ◌∷◌, [], drop, take, sym, ap, ◌∙◌, arith, rules}
-use Rattle.std.specs.Prelude.{Ok, Err, OnErr, Result}
+use Rattle.std.proofs.Common.{◌≡◌, false, refl, ℕ, ◌+◌, ◌*◌, ◌++◌, ◌∷◌, [], drop, take, sym, ap, ◌∙◌, arith, rules, Ok, Err, OnErr, Result}
 use Rattle.fx_sound.specs.FrameCoding.{coded_samples}
 use Rattle.fx_sound.specs.Container.{after_frames, first_frames}
 use Rattle.fx_sound.proofs.RunLaws.{after_frames-more, Ran-rest_unchanged, Ran-turn, Ran-end, Ran-whole, Ran-failed, first_frames-more, first_frames-within}

@@ -1,5 +1,4 @@
-use Rattle.std.proofs.Common.{◌≡◌, ℕ, ◌%◌, List, length, drop, sym, ap, ◌∙◌, rules}
-use Rattle.std.specs.Prelude.{Ok, Result}
+use Rattle.std.proofs.Common.{◌≡◌, ℕ, ◌%◌, List, length, drop, sym, ap, ◌∙◌, rules, Ok, Result}
 use Rattle.std.proofs.lemmas.Result.{IfOk-at_ok}
 use Rattle.fx_sound.specs.declared.head.HeadFault.{HeadFault}
 use Rattle.fx_sound.specs.declared.sound.SoundFault.{SoundFault}

@@ -1,5 +1,4 @@
-use Rattle.std.proofs.Common.{◌+◌, ◌%◌, ◌≤◌, take, ap, subst, ◌∙◌, arith}
-use Rattle.std.specs.Prelude.{Ok}
+use Rattle.std.proofs.Common.{◌+◌, ◌%◌, ◌≤◌, take, ap, subst, ◌∙◌, arith, Ok}
 use Rattle.fx_sound.specs.declared.wave.Demand.{Demand}
 use Rattle.fx_sound.specs.Wave.{IsNearChunk, format_read, padded_chunk, with_body, with_format}
 use Rattle.fx_sound.proofs.Faults.{IfErr-passed}

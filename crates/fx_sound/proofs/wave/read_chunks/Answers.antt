@@ -1,5 +1,4 @@
-use Rattle.std.proofs.Common.{◌≡◌, ◌+◌, ◌-◌, ◌≤◌, drop, sym, ap, ◌∙◌, arith, subst}
-use Rattle.std.specs.Prelude.{Some, Ok}
+use Rattle.std.proofs.Common.{◌≡◌, ◌+◌, ◌-◌, ◌≤◌, drop, sym, ap, ◌∙◌, arith, subst, Some, Ok}
 use Rattle.std.proofs.lemmas.List.{length-drop, drop-drop}
 use Rattle.fx_sound.specs.declared.wave.ChunkStep.{ChunkStep}
 use Rattle.fx_sound.specs.declared.wave.ChunkStep.TheVariants as step

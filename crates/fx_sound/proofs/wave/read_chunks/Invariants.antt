@@ -1,5 +1,4 @@
-use Rattle.std.proofs.Common.{◌≡◌, ℕ, ◌+◌, ◌-◌, ◌*◌, ◌<◌, ◌≤◌, None, Some, length, take, drop}
-use Rattle.std.specs.Prelude.{Err}
+use Rattle.std.proofs.Common.{◌≡◌, ℕ, ◌+◌, ◌-◌, ◌*◌, ◌<◌, ◌≤◌, None, Some, length, take, drop, Err}
 use Rattle.fx_sound.specs.declared.head.HeadFault.TheVariants.{Truncated}
 use Rattle.fx_sound.specs.Source.{to_come, Takes}
 use Rattle.fx_sound.specs.Known.{IfKnown}

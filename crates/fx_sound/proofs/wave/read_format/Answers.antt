@@ -1,5 +1,4 @@
-use Rattle.std.proofs.Common.{◌≡◌, ◌+◌, ◌≤◌, length, drop, sym, ap, ◌∙◌, arith, refl, Err}
-use Rattle.std.specs.Prelude.{Some}
+use Rattle.std.proofs.Common.{◌≡◌, ◌+◌, ◌≤◌, length, drop, sym, ap, ◌∙◌, arith, refl, Err, Some}
 use Rattle.std.proofs.lemmas.List.{length-drop, drop-drop, length-take-le}
 use Rattle.fx_sound.specs.Wave.{padded_chunk}
 use Rattle.fx_sound.proofs.Faults.{IfOk-at, IfErr-at}

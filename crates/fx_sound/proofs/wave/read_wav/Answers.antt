@@ -1,5 +1,4 @@
-use Rattle.std.proofs.Common.{◌≡◌, ◌+◌, ◌-◌, ◌<◌, length, drop, ap, ◌∙◌, arith, take, sym}
-use Rattle.std.specs.Prelude.{Some}
+use Rattle.std.proofs.Common.{◌≡◌, ◌+◌, ◌-◌, ◌<◌, length, drop, ap, ◌∙◌, arith, take, sym, Some}
 use Rattle.std.proofs.lemmas.List.{length-drop, drop-drop, take-take, length-take}
 use Rattle.std.proofs.lemmas.Result.{IfErr-weaker}
 use Rattle.fx_sound.proofs.Faults.{IfOk-both}

@@ -1,6 +1,5 @@
 -- A frame is kept, or left out.
-use Rattle.std.proofs.Common.{arith, rules, ◌≡◌}
-use Rattle.std.specs.Prelude.{Some}
+use Rattle.std.proofs.Common.{arith, rules, ◌≡◌, Some}
 use Rattle.fx_frame_base.specs.PendingFrame.{IsPending}
 use Rattle.fx_cut.proofs.DownsampleLaws.{Took-kept, IsDownsample-kept, IsDownsample-left}
 use Rattle.fx_cut.proofs.downsample.DownsampleStage.take.Goals as goal

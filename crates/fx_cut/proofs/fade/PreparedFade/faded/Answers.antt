@@ -1,5 +1,4 @@
-use Rattle.std.proofs.Common.{refl, ◌≡◌, ◌∷◌, ◌-◌, [], ap, sym, ◌∙◌, cond, length, map, pos, replicate, take, List}
-use Rattle.std.specs.Prelude.{ℤ}
+use Rattle.std.proofs.Common.{refl, ◌≡◌, ◌∷◌, ◌-◌, [], ap, sym, ◌∙◌, cond, length, map, pos, replicate, take, List, ℤ}
 use Rattle.std.proofs.lemmas.List.{take_at}
 use Rattle.fx_cut.specs.Fade.{faded_frame, weighted, weights}
 use Rattle.fx_frame_base.specs.Given.{plain}

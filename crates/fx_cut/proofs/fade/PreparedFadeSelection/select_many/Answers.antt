@@ -1,5 +1,4 @@
-use Rattle.std.proofs.Common.{◌≡◌, ◌≤◌, ◌∷◌, ◌++◌, ◌+◌, ◌-◌, ◌*◌, [], ap, sym, ◌∙◌, arith, drop, length, length-drop, map, suc, take, List, ℕ, add-one, w32}
-use Rattle.std.specs.Prelude.{FitsSigned, ℤ}
+use Rattle.std.proofs.Common.{◌≡◌, ◌≤◌, ◌∷◌, ◌++◌, ◌+◌, ◌-◌, ◌*◌, [], ap, sym, ◌∙◌, arith, drop, length, length-drop, map, suc, take, List, ℕ, add-one, w32, FitsSigned, ℤ}
 use Rattle.std.proofs.lemmas.List.Elements.{All-append, All-drop, All-take}
 use Rattle.std.proofs.Math.Nat.{suc-mul, mul-le-mul_right}
 use Rattle.std.proofs.lemmas.List.{map-append}

@@ -1,5 +1,4 @@
-use Rattle.std.proofs.Common.{refl, sym, ap, rules}
-use Rattle.std.specs.Prelude.{map}
+use Rattle.std.proofs.Common.{refl, sym, ap, rules, map}
 use Rattle.std.specs.Int.{w32}
 use Rattle.fx_frame_line.specs.Line.{IsLine}
 use Rattle.fx_frame_base.specs.Given.{plain}

@@ -1,5 +1,4 @@
-use Rattle.std.proofs.Common.{◌≡◌, ◌+◌, length, ap, ◌∙◌, arith}
-use Rattle.std.specs.Prelude.{option_to_list}
+use Rattle.std.proofs.Common.{◌≡◌, ◌+◌, length, ap, ◌∙◌, arith, option_to_list}
 use Rattle.fx_cut.proofs.PendingLemmas.{empty-pending}
 use Rattle.fx_cut.proofs.SelectSteps.{IsSelect-over, given-due}
 use Rattle.fx_cut.proofs.selected.SelectedStage.end.Goals as goal

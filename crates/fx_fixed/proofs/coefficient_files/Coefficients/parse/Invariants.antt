@@ -1,5 +1,4 @@
-use Rattle.std.proofs.Common.{◌≡◌, ◌++◌, ◌≤◌, length}
-use Rattle.std.specs.Prelude.{map}
+use Rattle.std.proofs.Common.{◌≡◌, ◌++◌, ◌≤◌, length, map}
 use Rattle.std.specs.List.{list_all}
 use Rattle.fx_fixed.specs.CoefficientFiles.{gain_in, is_gain, words_of}
 use Rattle.fx_fixed.proofs.coefficient_files.Coefficients.parse.Given as goal

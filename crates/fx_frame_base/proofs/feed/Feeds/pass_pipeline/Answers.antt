@@ -1,5 +1,4 @@
-use Rattle.std.proofs.Common.{◌*◌, ◌≡◌, arith}
-use Rattle.std.specs.Prelude.{FitsSigned}
+use Rattle.std.proofs.Common.{◌*◌, ◌≡◌, arith, FitsSigned}
 use Rattle.std.specs.Int.{w32}
 use Rattle.std.proofs.lemmas.List.Elements.{All-nil}
 use Rattle.fx_frame_base.proofs.PipelineLaws.{PipelineThrough-none}
