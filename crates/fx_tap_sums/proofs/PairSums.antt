@@ -21,12 +21,6 @@ pub record AddingHalves (xs ws : List ℤ) (tap : ℕ) (s : ℤ) : Type 0 where
   pub value : s +ℤ sum_of_products (drop tap xs) (drop tap ws) ≡ sum_of_products xs ws
   pub bound : unsigned_abs s + 2 ^ 15 * sum_by unsigned_abs (drop tap ws) ≤ 2 ^ 15 * sum_by unsigned_abs ws
 
-pub AddingHalves-first : (xs ws : List ℤ) → AddingHalves xs ws 0 (pos 0)
-AddingHalves-first xs ws = record {
-  value = omega (arith, ints);
-  bound = omega arith;
-}
-
 -- a tap more, where there is one: 0 is the weight of one that there is not
 step : (xs ws : List ℤ) (tap : ℕ) → tap < length xs
     → (sum_of_products (drop tap xs) (drop tap ws) ≡ (get_or xs tap (pos 0) *ℤ get_or ws tap (pos 0)) +ℤ sum_of_products (drop (tap + 1) xs) (drop (tap + 1) ws))
