@@ -23,10 +23,10 @@ returns g c =
     c.prepare.new.source c.finish-status.new.source c.in-Ok.ready c.args.output.now c.finish-status.new.output c.into_inner-2.result c.finish-status.result.0 c.finish-status.result.1
     (record {
       line = delivered.line;
-      head = rw start at delivered.head;
-      no_faults = delivered.no_faults;
-      planned = delivered.planned;
-      chain = delivered.chain;
-      unfailed = delivered.unfailed ∙ ap g.R.ByteIn.reads.failures new.reader;
+      head = rw start at delivered.prepared.head;
+      no_faults = delivered.prepared.no_faults;
+      planned = delivered.prepared.planned;
+      chain = delivered.prepared.chain;
+      unfailed = delivered.prepared.unfailed ∙ ap g.R.ByteIn.reads.failures new.reader;
     })
     (rw (delivered.silent) at c.finish-status.ensures) c.into_inner-2.ensures
