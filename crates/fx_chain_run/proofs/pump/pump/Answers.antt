@@ -330,7 +330,6 @@ returns-in-Err-TooLong-clause-source g c = record {
 pub returns-in_err-pump_block : goal.returns-in_err-pump_block
 returns-in_err-pump_block g c =
     let next = rw c.in-Ok-Some.field-0-is at c.in-Ok-Some.ensures in
-    let Until : g.row.R.Denot → Type 0 = λ r. WaitedForDue g.S.Stage.acts g.R.ReadBeside.reads g.R.ReadBeside.asked c.args.flow.now c.args.frame_writer.now.coding c.args.head.now c.args.progress.now (g.W.ByteOut.writes.taken c.args.writer.now) c.args.source.now r in
     let front = c.in_err-pump_block.ensures.cut_off _ (turned g (goal.at.returns-in_err-pump_block g c).After-pump_block) in
     let failed = err_from_is_err_and c.from_residual-in_err-pump_block.result c.from_residual-in_err-pump_block.ensures.1 in
     rw (failed.1, failed.2)
@@ -339,7 +338,7 @@ returns-in_err-pump_block g c =
       flow = record { done = tt; hungry = λ other. not-both true other refl; due = λ other. not-both true other refl; recipes = front.stay; width = front.kept; taken = front.taken };
       taken = record { whole = front.whole; ends = rw front.begun front.ends; met = rw (front.begun, front.running) refl; over = λ other. not-both true other refl; wants = front.wants; enough = tt; determined = tt; not_enough = λ other. not-both true other refl; read_failed = λ other. not-both false refl other; too_long = λ other. not-both true (ap is_write_failed other) refl; maximum = front.maximum };
       source = record { left = λ _ bytes known. rw front.begun (front.left bytes known); came = λ other. not-both false refl other };
-      waited = subst Until (sym c.pump_block.ensures.passed.reader) (asked g (goal.at.returns-in_err-pump_block g c).After-next_frame);
+      waited = rw c.pump_block.ensures.passed.reader (asked g (goal.at.returns-in_err-pump_block g c).After-next_frame);
       faults = record { reads = front.reads; writes = c.in_err-pump_block.ensures.failures ∙ ap (λ n. saturated (n + 1)) (c.in_ok-drain-in-Ok-Some.ensures.failures ∙ next.faults.writes ∙ c.loop-turn.invariant.writes) };
     })
 
