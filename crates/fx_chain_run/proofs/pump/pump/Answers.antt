@@ -153,26 +153,18 @@ loop-turn-init g c =
     }
 
 pub returns-in_err-end_flow-clause-sent : goal.returns-in_err-end_flow-clause-sent
-returns-in_err-end_flow-clause-sent g c = record {
-  sent = first_of (search rules, grind (arith, common_steps));
-  write_failed =
-      λ _ bytes known.
-      let old = c.loop-turn.invariant.pumped in
-      (FlowedFront-end g.S.Stage.acts c.args.flow.now c.loop-turn.flow _ c.end_flow.new.flow c.args.frame_writer.now.coding _ _ _ _ _ _ _ _ c.args.head.now (old.flowed bytes known) old.hungry refl
-      (rw (old.coded) at c.in_err-end_flow.ensures.cut_off));
-  free = first_of (search rules, grind (arith, common_steps));
-}
+returns-in_err-end_flow-clause-sent g c =
+    let old = c.loop-turn.invariant.pumped in
+    let sent = λ (bytes : List ℕ) (known : to_come g.R.ReadBeside.reads.rest c.args.source.now ≡ Some bytes).
+    FlowedFront-end g.S.Stage.acts c.args.flow.now c.loop-turn.flow _ c.end_flow.new.flow c.args.frame_writer.now.coding _ _ _ _ _ _ _ _ c.args.head.now (old.flowed bytes known) old.hungry refl (rw old.coded at c.in_err-end_flow.ensures.cut_off) in
+    first_of (search (rules, sent), grind (arith, common_steps, sent))
 
 pub returns-then-is_spent-clause-sent : goal.returns-then-is_spent-clause-sent
-returns-then-is_spent-clause-sent g c = record {
-  sent =
-      λ _ bytes known.
-      let old = c.loop-turn.invariant.pumped in
-      (Flowed-end g.S.Stage.acts c.args.flow.now c.loop-turn.flow _ c.end_flow.new.flow c.args.frame_writer.now.coding _ _ _ _ _ _ _ _ c.args.head.now (old.flowed bytes known) old.hungry refl
-      (rw (old.coded) at c.in_ok-end_flow.ensures.drained));
-  write_failed = first_of (search rules, grind (arith, common_steps));
-  free = first_of (search rules, grind (arith, common_steps));
-}
+returns-then-is_spent-clause-sent g c =
+    let old = c.loop-turn.invariant.pumped in
+    let sent = λ (bytes : List ℕ) (known : to_come g.R.ReadBeside.reads.rest c.args.source.now ≡ Some bytes).
+    Flowed-end g.S.Stage.acts c.args.flow.now c.loop-turn.flow _ c.end_flow.new.flow c.args.frame_writer.now.coding _ _ _ _ _ _ _ _ c.args.head.now (old.flowed bytes known) old.hungry refl (rw old.coded at c.in_ok-end_flow.ensures.drained) in
+    first_of (search (rules, sent), grind (arith, common_steps, sent))
 
 pub returns-in_err-drain-in-Ok-Some-clause-sent : goal.returns-in_err-drain-in-Ok-Some-clause-sent
 returns-in_err-drain-in-Ok-Some-clause-sent g c = record {
