@@ -327,13 +327,18 @@ module _ {S R : Type 0} (acts : Acts S R) where
       went-now : WentThrough acts x (if b then Some (take outputs places') else None) stages stages'
       went-now = let front : take channels (x ++ drop channels places) ≡ x = take_at x (drop channels places) channels width in rw (front, outs-now) at went
 
+      -- a frame that comes out is as wide as those of the output, which has space for it
+      placed : b ≡ true → (length (take outputs places') ≡ outputs) × (given * outputs + outputs ≤ length out)
+      placed is =
+          let wide' = rw outs-now at (wide is) in
+          let turns : (given + 1) * outputs ≤ count * outputs = mul-le-mul_right outputs (omega (arith, more, run.fewer)) in
+          (length-take-le outputs places' (omega (arith, sixteen, wide'.1)), omega (arith, next-frame given outputs, turns, fits_out))
+
       pub Running-frame : Wrote outputs b (take outputs places') out out' given given' → Running stages' out' ((taken + 1) * channels) (given' * outputs) (taken + 1) given'
       Running-frame (inl wrote) =
           let went' = rw wrote.0 at went-now in
           let wide' = rw outs-now at (wide wrote.0) in
-          let long : length (take outputs places') ≡ outputs = length-take-le outputs places' (omega (arith, sixteen, wide'.1)) in
-          let turns : (given + 1) * outputs ≤ count * outputs = mul-le-mul_right outputs (omega (arith, more, run.fewer)) in
-          let free : given * outputs + outputs ≤ length out = omega (arith, next-frame given outputs, turns, fits_out) in
+          let (long, free) = placed wrote.0 in
           let n : given * outputs + outputs - given * outputs ≡ outputs = omega arith in
           let put = put-mid (given * outputs) outputs out (take outputs places') out' (rw n at wrote.1) in
           rw (wrote.2, ← next-frame taken channels, ← next-frame given outputs)
@@ -365,10 +370,7 @@ module _ {S R : Type 0} (acts : Acts S R) where
 
           from : Wrote outputs b (take outputs places') out out' given given' → InOrder acts handed passed_while (flow_of acts channels first start-left) (pieces channels (taken + 1) input) (pieces outputs given' out') [] 0 (flow_of acts channels stages' (start-left + (taken + 1)))
           from (inl wrote) =
-              let wide' = rw outs-now at (wide wrote.0) in
-              let long : length (take outputs places') ≡ outputs = length-take-le outputs places' (omega (arith, sixteen, wide'.1)) in
-              let turns : (given + 1) * outputs ≤ count * outputs = mul-le-mul_right outputs (omega (arith, more, run.fewer)) in
-              let free : given * outputs + outputs ≤ length out = omega (arith, next-frame given outputs, turns, fits_out) in
+              let (long, free) = placed wrote.0 in
               let n : given * outputs + outputs - given * outputs ≡ outputs = omega arith in
               let put = put-mid (given * outputs) outputs out (take outputs places') out' (rw n at wrote.1) in
               let put' : out' ≡ take (given * outputs) out ++ take outputs places' ++ drop (given * outputs + length (take outputs places')) out = put ∙ ap (λ k. take (given * outputs) out ++ take outputs places' ++ drop (given * outputs + k) out) (sym long) in

@@ -153,26 +153,18 @@ loop-turn-init g c =
     }
 
 pub returns-in_err-end_flow-clause-sent : goal.returns-in_err-end_flow-clause-sent
-returns-in_err-end_flow-clause-sent g c = record {
-  sent = first_of (search rules, grind (arith, common_steps));
-  write_failed =
-      λ _ bytes known.
-      let old = c.loop-turn.invariant.pumped in
-      (FlowedFront-end g.S.Stage.acts c.args.flow.now c.loop-turn.flow _ c.end_flow.new.flow c.args.frame_writer.now.coding _ _ _ _ _ _ _ _ c.args.head.now (old.flowed bytes known) old.hungry refl
-      (rw (old.coded) at c.in_err-end_flow.ensures.cut_off));
-  free = first_of (search rules, grind (arith, common_steps));
-}
+returns-in_err-end_flow-clause-sent g c =
+    let old = c.loop-turn.invariant.pumped in
+    let sent = λ (bytes : List ℕ) (known : to_come g.R.ReadBeside.reads.rest c.args.source.now ≡ Some bytes).
+    FlowedFront-end g.S.Stage.acts c.args.flow.now c.loop-turn.flow _ c.end_flow.new.flow c.args.frame_writer.now.coding _ _ _ _ _ _ _ _ c.args.head.now (old.flowed bytes known) old.hungry refl (rw old.coded at c.in_err-end_flow.ensures.cut_off) in
+    first_of (search (rules, sent), grind (arith, common_steps, sent))
 
 pub returns-then-is_spent-clause-sent : goal.returns-then-is_spent-clause-sent
-returns-then-is_spent-clause-sent g c = record {
-  sent =
-      λ _ bytes known.
-      let old = c.loop-turn.invariant.pumped in
-      (Flowed-end g.S.Stage.acts c.args.flow.now c.loop-turn.flow _ c.end_flow.new.flow c.args.frame_writer.now.coding _ _ _ _ _ _ _ _ c.args.head.now (old.flowed bytes known) old.hungry refl
-      (rw (old.coded) at c.in_ok-end_flow.ensures.drained));
-  write_failed = first_of (search rules, grind (arith, common_steps));
-  free = first_of (search rules, grind (arith, common_steps));
-}
+returns-then-is_spent-clause-sent g c =
+    let old = c.loop-turn.invariant.pumped in
+    let sent = λ (bytes : List ℕ) (known : to_come g.R.ReadBeside.reads.rest c.args.source.now ≡ Some bytes).
+    Flowed-end g.S.Stage.acts c.args.flow.now c.loop-turn.flow _ c.end_flow.new.flow c.args.frame_writer.now.coding _ _ _ _ _ _ _ _ c.args.head.now (old.flowed bytes known) old.hungry refl (rw old.coded at c.in_ok-end_flow.ensures.drained) in
+    first_of (search (rules, sent), grind (arith, common_steps, sent))
 
 pub returns-in_err-drain-in-Ok-Some-clause-sent : goal.returns-in_err-drain-in-Ok-Some-clause-sent
 returns-in_err-drain-in-Ok-Some-clause-sent g c = record {
@@ -330,7 +322,6 @@ returns-in-Err-TooLong-clause-source g c = record {
 pub returns-in_err-pump_block : goal.returns-in_err-pump_block
 returns-in_err-pump_block g c =
     let next = rw c.in-Ok-Some.field-0-is at c.in-Ok-Some.ensures in
-    let Until : g.row.R.Denot → Type 0 = λ r. WaitedForDue g.S.Stage.acts g.R.ReadBeside.reads g.R.ReadBeside.asked c.args.flow.now c.args.frame_writer.now.coding c.args.head.now c.args.progress.now (g.W.ByteOut.writes.taken c.args.writer.now) c.args.source.now r in
     let front = c.in_err-pump_block.ensures.cut_off _ (turned g (goal.at.returns-in_err-pump_block g c).After-pump_block) in
     let failed = err_from_is_err_and c.from_residual-in_err-pump_block.result c.from_residual-in_err-pump_block.ensures.1 in
     rw (failed.1, failed.2)
@@ -339,7 +330,7 @@ returns-in_err-pump_block g c =
       flow = record { done = tt; hungry = λ other. not-both true other refl; due = λ other. not-both true other refl; recipes = front.stay; width = front.kept; taken = front.taken };
       taken = record { whole = front.whole; ends = rw front.begun front.ends; met = rw (front.begun, front.running) refl; over = λ other. not-both true other refl; wants = front.wants; enough = tt; determined = tt; not_enough = λ other. not-both true other refl; read_failed = λ other. not-both false refl other; too_long = λ other. not-both true (ap is_write_failed other) refl; maximum = front.maximum };
       source = record { left = λ _ bytes known. rw front.begun (front.left bytes known); came = λ other. not-both false refl other };
-      waited = subst Until (sym c.pump_block.ensures.passed.reader) (asked g (goal.at.returns-in_err-pump_block g c).After-next_frame);
+      waited = rw c.pump_block.ensures.passed.reader (asked g (goal.at.returns-in_err-pump_block g c).After-next_frame);
       faults = record { reads = front.reads; writes = c.in_err-pump_block.ensures.failures ∙ ap (λ n. saturated (n + 1)) (c.in_ok-drain-in-Ok-Some.ensures.failures ∙ next.faults.writes ∙ c.loop-turn.invariant.writes) };
     })
 
