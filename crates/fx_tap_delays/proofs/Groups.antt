@@ -20,8 +20,8 @@ put-is at size made out long =
     sym (append_assoc (take at out) made (drop size (drop at out))) ∙ ap (λ rest. take at out ++ made ++ rest) (drop-drop size at out ∙ ap (λ n. drop (at + n) out) (sym long))
 
 -- so many frames end where they all end
-pub group-end : (ch done n count most : ℕ) → done + n ≤ count → count * ch ≤ most → done * ch + n * ch ≤ most
-group-end ch done n count most within free = omega (arith, mul-le-mul_right ch within, add-mul done n ch)
+pub group-end : (ch done n count maximum : ℕ) → done + n ≤ count → count * ch ≤ maximum → done * ch + n * ch ≤ maximum
+group-end ch done n count maximum within free = omega (arith, mul-le-mul_right ch within, add-mul done n ch)
 
 -- a frame
 module _ (size turn at : ℕ) (out made : List ℤ) (at_is : at ≡ turn * size) (long : length made ≡ size) (free : at + size ≤ length out) where
