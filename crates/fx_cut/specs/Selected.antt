@@ -7,9 +7,8 @@ use Rattle.fx_frame_base.specs.Frame.{Samples}
 use Rattle.fx_frame_base.specs.Lists.{pieces}
 use Rattle.fx_frame_line.specs.Line.{Frames, IsLine}
 use Rattle.fx_frame_base.specs.PendingFrame.{IsPending}
-use Rattle.fx_frame_base.specs.Stage.{Acts, Given, StageKind, coming}
+use Rattle.fx_frame_base.specs.Stage.{Acts, Given, StageKind, coming, max_taken}
 use Rattle.fx_frame_base.specs.Given.{plain}
-use Rattle.fx_frame.specs.Kinds.{max_taken}
 
 -- what effects of such arguments give of the frames of a sound
 pub record Selects (M : Type 0) : Type 0 where

@@ -1,10 +1,10 @@
 -- Frames that lie one after another, each made of itself and of those before it.
-use Rattle.std.proofs.Common.{◌≡◌, ◌+◌, ◌-◌, ◌*◌, ◌≤◌, ℕ, ℤ, false, List, [], ◌∷◌, ◌++◌, length, map, min, refl, sym, ap, ◌∙◌, arith, add-zero, append-nil, append_assoc, length-append, length-drop, subst, replicate, get_or, pos, slice_set, None, Some, ◌^◌}
+use Rattle.std.proofs.Common.{◌≡◌, ◌+◌, ◌-◌, ◌*◌, ◌≤◌, ℕ, ℤ, false, List, [], ◌∷◌, ◌++◌, length, map, min, refl, sym, ap, ◌∙◌, arith, add-zero, append-nil, append_assoc, length-append, length-drop, subst, replicate, get_or, pos, slice_set, None, ◌^◌}
 use Rattle.std.specs.Int.{w32}
-use Rattle.std.proofs.Math.Nat.{add-mul}
 use Rattle.std.specs.List.{All}
 use Rattle.std.proofs.lemmas.List.Elements.{All-head, All-tail}
 use Rattle.std.proofs.lemmas.List.{map-append}
+use Rattle.fx_frame_base.specs.declared.stage_core.StageCore.{StageCore}
 use Rattle.fx_frame_base.specs.declared.feed.Passing.TheVariants.{Through}
 use Rattle.fx_frame_base.specs.Feed.{Fed, GaveNext, PassedOn, TookNext, nothing, taken, given}
 use Rattle.fx_frame_base.specs.Frame.{Samples, silence}
@@ -13,6 +13,8 @@ use Rattle.fx_frame_base.specs.Lists.{pieces}
 use Rattle.fx_frame_base.specs.Pipeline.{EachThrough}
 use Rattle.fx_frame_base.specs.Stage.{Acts, Given, IsDry}
 use Rattle.fx_frame_base.specs.Holds.{total}
+use Rattle.fx_frame_base.specs.StageCore.{after_offering, after_passing}
+use Rattle.fx_frame_base.proofs.Cores.{IsCore-passed, is-passed-core, passed_core}
 use Rattle.fx_frame_base.proofs.FedLaws.{Fed-then, total-append}
 use Rattle.fx_frame_line.proofs.RingLaws.{keep-twice}
 use Rattle.fx_frame_base.proofs.Pieces.{length-pieces}
@@ -68,27 +70,22 @@ last-whole c items h =
     rw (append-nil, none) refl
 
 -- the state after a block of frames went by
-pub IsTapState-block : {M : Type 0} (taps : Taps M) (s : TapState M) (line : Frames ℤ) (n clips : ℕ) (xs : List Samples) → IsTapState taps s → s.pending ≡ None → s.ended ≡ false → s.taken + n ≤ 2 ^ 56 → length xs ≡ n
+pub IsTapState-block : {M : Type 0} (taps : Taps M) (s : TapState M) (line : Frames ℤ) (n clips : ℕ) (xs : List Samples) → IsTapState taps s → s.core.pending ≡ None → s.core.ended ≡ false → s.core.taken + n ≤ 2 ^ 56 → length xs ≡ n
     → IsLine w32 line → line.items ≡ last_of s.line.capacity (s.line.items ++ xs) → line.capacity ≡ s.line.capacity → line.channels ≡ s.line.channels → clips ≤ n * taps.max_clips s.arguments
-    → IsTapState taps (record s { line = line; taken = s.taken + n; given = s.given + n; clips = s.clips + clips })
+    → IsTapState taps (record s { core = after_passing n clips s.core; line = line })
 IsTapState-block taps s line n clips xs is none running bound many lined items capacity channels little =
-    let counted : s.given + 0 + s.tail ≡ s.taken + 0 = rw (none, running) at is.counted in
-    let before : length s.line.items ≡ min (s.given + 0) s.line.capacity = rw none at is.held in
+    let counted : s.core.given + 0 + s.tail ≡ s.core.taken + 0 = rw (none, running) at is.counted in
+    let before : length s.line.items ≡ min (s.core.given + 0) s.line.capacity = rw none at is.held in
     let after : length line.items ≡ min (length (s.line.items ++ xs)) s.line.capacity = ap length items ∙ length-last s.line.capacity (s.line.items ++ xs) in
     let all : length (s.line.items ++ xs) ≡ length s.line.items + n = length-append s.line.items xs ∙ ap (λ k. length s.line.items + k) many in
     record {
+      core = IsCore-passed _ _ n clips s.core is.core bound little;
       line = lined;
       channels = channels ∙ is.channels;
       capacity = capacity ∙ is.capacity;
       counted = rw (none, running) (omega (arith, counted));
       held = rw none (omega (arith, before, after, all, capacity));
-      idle = is.idle;
-      over = is.over;
-      bound = bound;
       not_ended = is.not_ended;
-      clips_max = omega (arith, is.clips_max, little, add-mul s.given n (taps.max_clips s.arguments));
-      pending_max = is.pending_max;
-      fits = is.fits;
     }
 
 module _ {M : Type 0} (taps : Taps M) (near : IsNear taps) where
@@ -127,7 +124,7 @@ module _ {M : Type 0} (taps : Taps M) (near : IsNear taps) where
 
     -- such a stage with no frame in hand, which has given what it took
     abbrev pub ready : Frames ℤ → ℕ → ℕ → TapState M
-    ready line count clips = record { arguments = m; line = line; pending = None; pending_clips = 0; tail = 0; taken = count; given = count; clips = clips; ended = false }
+    ready line count clips = record { core = passed_core count clips; line = line; tail = 0; arguments = m }
 
     -- the line after these frames
     abbrev pub through : Frames ℤ → List Samples → Frames ℤ
@@ -139,7 +136,7 @@ module _ {M : Type 0} (taps : Taps M) (near : IsNear taps) where
 
     -- a frame was taken, and what is made of it is in hand
     abbrev pub holding : Frames ℤ → ℕ → ℕ → Samples → TapState M
-    holding line count clips x = record { arguments = m; line = through line (x ∷ []); pending = Some (made_after line x).samples; pending_clips = (made_after line x).clips; tail = 0; taken = count + 1; given = count; clips = clips; ended = false }
+    holding line count clips x = record { core = after_offering (made_after line x).samples (made_after line x).clips (passed_core count clips); line = through line (x ∷ []); tail = 0; arguments = m }
 
     one-passed : (line : Frames ℤ) (count clips : ℕ) (x : Samples) → line.capacity ≡ taps.reach m → length line.items ≤ line.capacity → length (made_after line x).samples ≡ taps.channels m
         → PassedOn acts Through (ready line count clips) (ready (through line (x ∷ [])) (count + 1) (clips + (made_after line x).clips)) x (made_after line x).samples
@@ -179,26 +176,33 @@ module _ {M : Type 0} (taps : Taps M) (near : IsNear taps) where
         let passed = one-passed line count clips x size within sides in
         given (x ∷ []) [] (made_after line x).samples passed.0 (ready (through line (x ∷ [])) (count + 1) (clips + (made_after line x).clips)) (taken [] [] x (ready line count clips) passed.0 nothing passed.1) passed.2
 
+    -- a stage with no frame in hand that has not ended is ready
+    ready-is : (s : TapState M) → s.arguments ≡ m → IsTapState taps s → s.core.pending ≡ None → s.core.ended ≡ false → s ≡ ready s.line s.core.taken s.core.clips
+    ready-is s e is none running =
+        let no_tail : s.tail ≡ 0 = is.not_ended running in
+        let counted : s.core.given + 0 + s.tail ≡ s.core.taken + 0 = rw (none, running) at is.counted in
+        let same : s.core ≡ passed_core s.core.taken s.core.clips = is-passed-core s.core none (is.core.idle (rw none refl)) running (omega (arith, counted, no_tail)) in
+        let rest : record s { core = passed_core s.core.taken s.core.clips } ≡ ready s.line s.core.taken s.core.clips = rw (no_tail, e) refl in
+        ap (λ (c : StageCore). record s { core = c }) same ∙ rest
+
     -- one frame, passed on in its place
-    pub frame-passed : (s : TapState M) (line : Frames ℤ) (x y : Samples) (clips : ℕ) → s.arguments ≡ m → s.pending ≡ None → s.pending_clips ≡ 0 → s.tail ≡ 0 → s.ended ≡ false → s.given ≡ s.taken
-        → s.line.capacity ≡ taps.reach m → length s.line.items ≤ s.line.capacity → length y ≡ taps.channels m → y ≡ (made_after s.line x).samples → clips ≡ (made_after s.line x).clips
+    pub frame-passed : (s : TapState M) (line : Frames ℤ) (x y : Samples) (clips : ℕ) → s.arguments ≡ m → IsTapState taps s → s.core.pending ≡ None → s.core.ended ≡ false
+        → length y ≡ taps.channels m → y ≡ (made_after s.line x).samples → clips ≡ (made_after s.line x).clips
         → line.items ≡ last_of s.line.capacity (s.line.items ++ x ∷ []) → line.capacity ≡ s.line.capacity → line.channels ≡ s.line.channels
-        → PassedOn acts Through s (record s { line = line; taken = s.taken + 1; given = s.given + 1; clips = s.clips + clips }) x y
-    frame-passed s line x y clips e h k t over g size within wide made counted items capacity channels =
+        → PassedOn acts Through s (record s { core = after_passing 1 clips s.core; line = line }) x y
+    frame-passed s line x y clips e is none running wide made counted items capacity channels =
         let went : ◌≡◌ {A = Frames ℤ} (record { items = line.items; capacity = line.capacity; channels = line.channels }) (through s.line (x ∷ [])) = rw (items, capacity, channels) refl in
         let now : line ≡ through s.line (x ∷ []) = went in
-        let next : TapState M = ready (through s.line (x ∷ [])) (s.taken + 1) (s.clips + (made_after s.line x).clips) in
-        let whole : ◌≡◌ {A = TapState M} (record { arguments = s.arguments; line = s.line; pending = s.pending; pending_clips = s.pending_clips; tail = s.tail; taken = s.taken; given = s.given; clips = s.clips; ended = s.ended }) (ready s.line s.taken s.clips) = rw (e, h, k, t, over, g) refl in
-        let left : ◌≡◌ {A = TapState M} (record { arguments = s.arguments; line = line; pending = s.pending; pending_clips = s.pending_clips; tail = s.tail; taken = s.taken + 1; given = s.given + 1; clips = s.clips + clips; ended = s.ended }) (ready line (s.taken + 1) (s.clips + clips)) = rw (e, h, k, t, over, g) refl in
-        let last : ◌≡◌ {A = TapState M} (record { arguments = s.arguments; line = line; pending = s.pending; pending_clips = s.pending_clips; tail = s.tail; taken = s.taken + 1; given = s.given + 1; clips = s.clips + clips; ended = s.ended }) next =
-        left ∙ ap (λ (j : ℕ). ready line (s.taken + 1) (s.clips + j)) counted ∙ ap (λ (l : Frames ℤ). ready l (s.taken + 1) (s.clips + (made_after s.line x).clips)) now in
-        let start : s ≡ ready s.line s.taken s.clips = whole in
+        let next : TapState M = ready (through s.line (x ∷ [])) (s.core.taken + 1) (s.core.clips + (made_after s.line x).clips) in
+        let start : s ≡ ready s.line s.core.taken s.core.clips = ready-is s e is none running in
+        let left : record s { core = after_passing 1 clips s.core; line = line } ≡ ready line (s.core.taken + 1) (s.core.clips + clips) = ap (λ (u : TapState M). record u { core = after_passing 1 clips u.core; line = line }) start in
+        let last : record s { core = after_passing 1 clips s.core; line = line } ≡ next =
+        left ∙ ap (λ (j : ℕ). ready line (s.core.taken + 1) (s.core.clips + j)) counted ∙ ap (λ (l : Frames ℤ). ready l (s.core.taken + 1) (s.core.clips + (made_after s.line x).clips)) now in
         let sides : length (made_after s.line x).samples ≡ taps.channels m = sym (ap length made) ∙ wide in
-        let passed : PassedOn acts Through (ready s.line s.taken s.clips) next x (made_after s.line x).samples = one-passed s.line s.taken s.clips x size within sides in
-        let new : record s { line = line; taken = s.taken + 1; given = s.given + 1; clips = s.clips + clips } ≡ next = last in
+        let passed : PassedOn acts Through (ready s.line s.core.taken s.core.clips) next x (made_after s.line x).samples = one-passed s.line s.core.taken s.core.clips x (is.capacity ∙ ap taps.reach e) is.line.within sides in
         let From : TapState M → Type 0 = λ u. PassedOn acts Through u next x (made_after s.line x).samples in
         let To : TapState M → Type 0 = λ u. PassedOn acts Through s u x (made_after s.line x).samples in
-        rw made (subst To (sym new) (subst From (sym start) passed))
+        rw made (subst To (sym last) (subst From (sym start) passed))
 
     -- frame by frame
     pub taps-fed : (xs : List Samples) (line : Frames ℤ) (count clips : ℕ) → line.capacity ≡ taps.reach m → length line.items ≤ line.capacity → All (λ (y : Samples). length y ≡ taps.channels m) (frames_after taps m line.items xs)
@@ -255,41 +259,39 @@ module _ {M : Type 0} (taps : Taps M) (near : IsNear taps) where
         subst (λ (l : List Samples). EachThrough acts (x ∷ xs) l (ready line count clips) end) (sym frames) whole
 
     -- a block of frames: the counters are added to once
-    pub block-fed : (s : TapState M) (line : Frames ℤ) (n clips : ℕ) (input output : List ℤ) → s.arguments ≡ m → s.pending ≡ None → s.pending_clips ≡ 0 → s.tail ≡ 0 → s.ended ≡ false → s.given ≡ s.taken
-        → s.line.capacity ≡ taps.reach m → length s.line.items ≤ s.line.capacity → n * taps.channels m ≤ length output
+    pub block-fed : (s : TapState M) (line : Frames ℤ) (n clips : ℕ) (input output : List ℤ) → s.arguments ≡ m → IsTapState taps s → s.core.pending ≡ None → s.core.ended ≡ false
+        → n * taps.channels m ≤ length output
         → pieces (taps.channels m) n output ≡ frames_after taps m s.line.items (pieces (taps.channels m) n input) → clips ≡ clips_after taps m s.line.items (pieces (taps.channels m) n input)
         → line.items ≡ last_of s.line.capacity (s.line.items ++ pieces (taps.channels m) n input) → line.capacity ≡ s.line.capacity → line.channels ≡ s.line.channels
-        → Fed acts s (pieces (taps.channels m) n input) (pieces (taps.channels m) n output) (record s { line = line; taken = s.taken + n; given = s.given + n; clips = s.clips + clips })
-    block-fed s line n clips input output e h k t over g size within long made counted items capacity channels =
+        → Fed acts s (pieces (taps.channels m) n input) (pieces (taps.channels m) n output) (record s { core = after_passing n clips s.core; line = line })
+    block-fed s line n clips input output e is none running long made counted items capacity channels =
         let xs : List Samples = pieces (taps.channels m) n input in
         let same : ◌≡◌ {A = Frames ℤ} (record { items = line.items; capacity = line.capacity; channels = line.channels }) (through s.line xs) = rw (items, capacity, channels) refl in
         let went : line ≡ through s.line xs = same in
         let sides : All (λ (y : Samples). length y ≡ taps.channels m) (frames_after taps m s.line.items xs) = rw (← made) (pieces-sides (taps.channels m) n output long) in
-        let fed : Fed acts (ready s.line s.taken s.clips) xs (frames_after taps m s.line.items xs) (ready (through s.line xs) (s.taken + length xs) (s.clips + clips_after taps m s.line.items xs)) = taps-fed xs s.line s.taken s.clips size within sides in
+        let fed : Fed acts (ready s.line s.core.taken s.core.clips) xs (frames_after taps m s.line.items xs) (ready (through s.line xs) (s.core.taken + length xs) (s.core.clips + clips_after taps m s.line.items xs)) = taps-fed xs s.line s.core.taken s.core.clips (is.capacity ∙ ap taps.reach e) is.line.within sides in
         let many : length xs ≡ n = length-pieces (taps.channels m) n input in
-        let whole : ◌≡◌ {A = TapState M} (record { arguments = s.arguments; line = s.line; pending = s.pending; pending_clips = s.pending_clips; tail = s.tail; taken = s.taken; given = s.given; clips = s.clips; ended = s.ended }) (ready s.line s.taken s.clips) = rw (e, h, k, t, over, g) refl in
-        let left : ◌≡◌ {A = TapState M} (record { arguments = s.arguments; line = line; pending = s.pending; pending_clips = s.pending_clips; tail = s.tail; taken = s.taken + n; given = s.given + n; clips = s.clips + clips; ended = s.ended }) (ready line (s.taken + n) (s.clips + clips)) = rw (e, h, k, t, over, g) refl in
-        let last : ◌≡◌ {A = TapState M} (record { arguments = s.arguments; line = line; pending = s.pending; pending_clips = s.pending_clips; tail = s.tail; taken = s.taken + n; given = s.given + n; clips = s.clips + clips; ended = s.ended }) (ready (through s.line xs) (s.taken + length xs) (s.clips + clips_after taps m s.line.items xs)) =
-        left ∙ ap (λ (j : ℕ). ready line (s.taken + j) (s.clips + clips)) (sym many) ∙ ap (λ (j : ℕ). ready line (s.taken + length xs) (s.clips + j)) counted ∙ ap (λ (l : Frames ℤ). ready l (s.taken + length xs) (s.clips + clips_after taps m s.line.items xs)) went in
-        let start : s ≡ ready s.line s.taken s.clips = whole in
-        rw (made, last) (subst (λ (u : TapState M). Fed acts u xs (frames_after taps m s.line.items xs) (ready (through s.line xs) (s.taken + length xs) (s.clips + clips_after taps m s.line.items xs))) (sym start) fed)
+        let start : s ≡ ready s.line s.core.taken s.core.clips = ready-is s e is none running in
+        let left : record s { core = after_passing n clips s.core; line = line } ≡ ready line (s.core.taken + n) (s.core.clips + clips) = ap (λ (u : TapState M). record u { core = after_passing n clips u.core; line = line }) start in
+        let last : record s { core = after_passing n clips s.core; line = line } ≡ (ready (through s.line xs) (s.core.taken + length xs) (s.core.clips + clips_after taps m s.line.items xs)) =
+        left ∙ ap (λ (j : ℕ). ready line (s.core.taken + j) (s.core.clips + clips)) (sym many) ∙ ap (λ (j : ℕ). ready line (s.core.taken + length xs) (s.core.clips + j)) counted ∙ ap (λ (l : Frames ℤ). ready l (s.core.taken + length xs) (s.core.clips + clips_after taps m s.line.items xs)) went in
+        rw (made, last) (subst (λ (u : TapState M). Fed acts u xs (frames_after taps m s.line.items xs) (ready (through s.line xs) (s.core.taken + length xs) (s.core.clips + clips_after taps m s.line.items xs))) (sym start) fed)
 
     -- the same, each given before the next is taken
-    pub block-through : (s : TapState M) (line : Frames ℤ) (n clips : ℕ) (input output : List ℤ) → s.arguments ≡ m → s.pending ≡ None → s.pending_clips ≡ 0 → s.tail ≡ 0 → s.ended ≡ false → s.given ≡ s.taken
-        → s.line.capacity ≡ taps.reach m → length s.line.items ≤ s.line.capacity → n * taps.channels m ≤ length output
+    pub block-through : (s : TapState M) (line : Frames ℤ) (n clips : ℕ) (input output : List ℤ) → s.arguments ≡ m → IsTapState taps s → s.core.pending ≡ None → s.core.ended ≡ false
+        → n * taps.channels m ≤ length output
         → pieces (taps.channels m) n output ≡ frames_after taps m s.line.items (pieces (taps.channels m) n input) → clips ≡ clips_after taps m s.line.items (pieces (taps.channels m) n input)
         → line.items ≡ last_of s.line.capacity (s.line.items ++ pieces (taps.channels m) n input) → line.capacity ≡ s.line.capacity → line.channels ≡ s.line.channels
-        → EachThrough acts (pieces (taps.channels m) n input) (pieces (taps.channels m) n output) s (record s { line = line; taken = s.taken + n; given = s.given + n; clips = s.clips + clips })
-    block-through s line n clips input output e h k t over g size within long made counted items capacity channels =
+        → EachThrough acts (pieces (taps.channels m) n input) (pieces (taps.channels m) n output) s (record s { core = after_passing n clips s.core; line = line })
+    block-through s line n clips input output e is none running long made counted items capacity channels =
         let xs : List Samples = pieces (taps.channels m) n input in
         let same : ◌≡◌ {A = Frames ℤ} (record { items = line.items; capacity = line.capacity; channels = line.channels }) (through s.line xs) = rw (items, capacity, channels) refl in
         let went : line ≡ through s.line xs = same in
         let sides : All (λ (y : Samples). length y ≡ taps.channels m) (frames_after taps m s.line.items xs) = rw (← made) (pieces-sides (taps.channels m) n output long) in
-        let fed : EachThrough acts xs (frames_after taps m s.line.items xs) (ready s.line s.taken s.clips) (ready (through s.line xs) (s.taken + length xs) (s.clips + clips_after taps m s.line.items xs)) = taps-through xs s.line s.taken s.clips size within sides in
+        let fed : EachThrough acts xs (frames_after taps m s.line.items xs) (ready s.line s.core.taken s.core.clips) (ready (through s.line xs) (s.core.taken + length xs) (s.core.clips + clips_after taps m s.line.items xs)) = taps-through xs s.line s.core.taken s.core.clips (is.capacity ∙ ap taps.reach e) is.line.within sides in
         let many : length xs ≡ n = length-pieces (taps.channels m) n input in
-        let whole : ◌≡◌ {A = TapState M} (record { arguments = s.arguments; line = s.line; pending = s.pending; pending_clips = s.pending_clips; tail = s.tail; taken = s.taken; given = s.given; clips = s.clips; ended = s.ended }) (ready s.line s.taken s.clips) = rw (e, h, k, t, over, g) refl in
-        let left : ◌≡◌ {A = TapState M} (record { arguments = s.arguments; line = line; pending = s.pending; pending_clips = s.pending_clips; tail = s.tail; taken = s.taken + n; given = s.given + n; clips = s.clips + clips; ended = s.ended }) (ready line (s.taken + n) (s.clips + clips)) = rw (e, h, k, t, over, g) refl in
-        let last : ◌≡◌ {A = TapState M} (record { arguments = s.arguments; line = line; pending = s.pending; pending_clips = s.pending_clips; tail = s.tail; taken = s.taken + n; given = s.given + n; clips = s.clips + clips; ended = s.ended }) (ready (through s.line xs) (s.taken + length xs) (s.clips + clips_after taps m s.line.items xs)) =
-        left ∙ ap (λ (j : ℕ). ready line (s.taken + j) (s.clips + clips)) (sym many) ∙ ap (λ (j : ℕ). ready line (s.taken + length xs) (s.clips + j)) counted ∙ ap (λ (l : Frames ℤ). ready l (s.taken + length xs) (s.clips + clips_after taps m s.line.items xs)) went in
-        let start : s ≡ ready s.line s.taken s.clips = whole in
-        rw (made, last) (subst (λ (u : TapState M). EachThrough acts xs (frames_after taps m s.line.items xs) u (ready (through s.line xs) (s.taken + length xs) (s.clips + clips_after taps m s.line.items xs))) (sym start) fed)
+        let start : s ≡ ready s.line s.core.taken s.core.clips = ready-is s e is none running in
+        let left : record s { core = after_passing n clips s.core; line = line } ≡ ready line (s.core.taken + n) (s.core.clips + clips) = ap (λ (u : TapState M). record u { core = after_passing n clips u.core; line = line }) start in
+        let last : record s { core = after_passing n clips s.core; line = line } ≡ (ready (through s.line xs) (s.core.taken + length xs) (s.core.clips + clips_after taps m s.line.items xs)) =
+        left ∙ ap (λ (j : ℕ). ready line (s.core.taken + j) (s.core.clips + clips)) (sym many) ∙ ap (λ (j : ℕ). ready line (s.core.taken + length xs) (s.core.clips + j)) counted ∙ ap (λ (l : Frames ℤ). ready l (s.core.taken + length xs) (s.core.clips + clips_after taps m s.line.items xs)) went in
+        rw (made, last) (subst (λ (u : TapState M). EachThrough acts xs (frames_after taps m s.line.items xs) u (ready (through s.line xs) (s.core.taken + length xs) (s.core.clips + clips_after taps m s.line.items xs))) (sym start) fed)

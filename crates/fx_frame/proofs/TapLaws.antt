@@ -1,14 +1,16 @@
 -- The steps of a stage that makes each frame of that frame and of those before it.
-use Rattle.std.proofs.Common.{ℕ, ℤ, pos, zero, suc, ◌+◌, ◌-◌, ◌<◌, ◌≤◌, ◌≡◌, true, false, cond, List, [], ◌∷◌, ◌++◌, length, drop, refl, sym, ap, ◌∙◌, min, arith, replicate, append_assoc, sub-one, option_to_list, nat_le, Some, None, ◌^◌}
+use Rattle.std.proofs.Common.{ℕ, ℤ, pos, zero, suc, ◌+◌, ◌-◌, ◌<◌, ◌≤◌, ◌≡◌, true, false, cond, List, [], ◌∷◌, ◌++◌, length, drop, refl, sym, ap, ◌∙◌, min, arith, replicate, append_assoc, sub-one, nat_le, None, ◌^◌}
 use Rattle.std.proofs.lemmas.Bool.{true_from_ne_false}
 use Rattle.std.specs.Int.{w32}
 use Rattle.std.proofs.lemmas.List.{length-append, length-drop, length-replicate, drop-append-le}
 use Rattle.fx_frame_base.specs.Frame.{Samples, silence, IsFrame}
 use Rattle.fx_frame_line.specs.Line.{Frames, pushed, IsLine}
 use Rattle.fx_frame_base.specs.Stage.{Freezes, Gave, Took}
+use Rattle.fx_frame_base.specs.StageCore.{after_offering, pending_frames}
 use Rattle.fx_frame_base.specs.Lists.{tabulate}
 use Rattle.fx_frame.specs.Tapped.{AreTapCounts, Taps, TapState, IsTapState, IsNear, given_after, by_name, tapped, tap_acts}
 use Rattle.fx_frame.specs.History.{sample_before}
+use Rattle.fx_frame_base.proofs.Cores.{IsCore-offered}
 use Rattle.fx_frame.proofs.Counts.{flag-false, flag-times, flag-true}
 use Rattle.fx_frame.proofs.DryLaws.{dry-pending, dry-tail}
 use Rattle.fx_frame.proofs.DelayLaws.{sample_before-append, sample_before-drop, silence-after}
@@ -46,15 +48,15 @@ module _ {M : Type 0} (taps : Taps M) (near : IsNear taps) where
 
   -- the state after a frame came
   abbrev pub taken_tap : TapState M → Frames ℤ → Samples → ℕ → TapState M
-  taken_tap s line out clips = record s { line = line; pending = Some out; pending_clips = clips; taken = s.taken + 1 }
+  taken_tap s line out clips = record s { core = after_offering out clips s.core; line = line }
 
-  pub Took-tap : (s : TapState M) (line : Frames ℤ) (frame out : Samples) (clips : ℕ) → IsTapState taps s → (tap_acts taps).dry s ≡ true → s.ended ≡ false
+  pub Took-tap : (s : TapState M) (line : Frames ℤ) (frame out : Samples) (clips : ℕ) → IsTapState taps s → (tap_acts taps).dry s ≡ true → s.core.ended ≡ false
       → out ≡ (taps.made s.arguments (sample_before (s.line.items ++ frame ∷ []) (length s.line.items))).samples
       → clips ≡ (taps.made s.arguments (sample_before (s.line.items ++ frame ∷ []) (length s.line.items))).clips
       → line.items ≡ pushed s.line frame → line.capacity ≡ s.line.capacity
       → Took (tap_acts taps) s (taken_tap s line out clips) frame
   Took-tap s line frame out clips is dry running e f items capacity =
-      let none = dry-pending s.pending s.tail dry in
+      let none = dry-pending s.core.pending s.tail dry in
       let held = is.line.within in
       let long : taps.reach s.arguments ≤ s.line.capacity = let k = is.capacity in omega arith in
       record {
@@ -71,42 +73,37 @@ module _ {M : Type 0} (taps : Taps M) (near : IsNear taps) where
       let d : length (drop (length whole - l.capacity) whole) ≡ length whole - (length whole - l.capacity) = length-drop (length whole - l.capacity) whole in
       omega (arith, n, d)
 
-  pub IsTapState-taken : (s : TapState M) (line : Frames ℤ) (frame out : Samples) (clips : ℕ) → IsTapState taps s → (tap_acts taps).dry s ≡ true → s.ended ≡ false → s.taken < 2 ^ 56
+  pub IsTapState-taken : (s : TapState M) (line : Frames ℤ) (frame out : Samples) (clips : ℕ) → IsTapState taps s → (tap_acts taps).dry s ≡ true → s.core.ended ≡ false → s.core.taken < 2 ^ 56
       → IsLine w32 line → line.items ≡ pushed s.line frame → line.capacity ≡ s.line.capacity → line.channels ≡ s.line.channels → IsFrame out → length out ≡ taps.channels s.arguments → clips ≤ taps.max_clips s.arguments
       → IsTapState taps (taken_tap s line out clips)
   IsTapState-taken s line frame out clips is dry running bound lined items capacity channels framed len little =
-      let none = dry-pending s.pending s.tail dry in
-      let counted : s.given + 0 + s.tail ≡ s.taken + 0 = rw (none, running) at is.counted in
-      let before : length s.line.items ≡ min (s.given + 0) s.line.capacity = rw none at is.held in
+      let none = dry-pending s.core.pending s.tail dry in
+      let counted : s.core.given + 0 + s.tail ≡ s.core.taken + 0 = rw (none, running) at is.counted in
+      let before : length s.line.items ≡ min (s.core.given + 0) s.line.capacity = rw none at is.held in
       let after : length line.items ≡ min (length s.line.items + 1) s.line.capacity = ap length items ∙ length-pushed s.line frame in
       record {
+        core = IsCore-offered _ _ s.core out clips is.core running bound framed len little;
         line = lined;
         channels = channels ∙ is.channels;
         capacity = capacity ∙ is.capacity;
         counted = rw running (omega arith);
         held = omega (arith, before, after, capacity);
-        idle = λ none. absurd (omega arith);
-        over = λ ended. absurd (cc (running, ended));
-        bound = omega arith;
         not_ended = is.not_ended;
-        clips_max = is.clips_max;
-        pending_max = little;
-        fits = λ x q. let same : out ≡ x = cc in (rw (← same) framed, rw (← same) len);
       }
 
   -- the state after a silent frame went through the line
   abbrev pub drained_tap : TapState M → Frames ℤ → ℕ → TapState M
-  drained_tap s line clips = record s { line = line; tail = s.tail - 1; given = s.given + 1; clips = s.clips + clips }
+  drained_tap s line clips = record s { core = record s.core { given = s.core.given + 1; clips = s.core.clips + clips }; line = line; tail = s.tail - 1 }
 
-  ended-tail : (s : TapState M) → IsTapState taps s → 0 < s.tail → s.ended ≡ true
-  ended-tail s is some = true_from_ne_false s.ended (λ e. let k = is.not_ended e in absurd (omega arith))
+  ended-tail : (s : TapState M) → IsTapState taps s → 0 < s.tail → s.core.ended ≡ true
+  ended-tail s is some = true_from_ne_false s.core.ended (λ e. let k = is.not_ended e in absurd (omega arith))
 
   rest-silence : (m : M) (items : List Samples) (silent_frame : Samples) (tail c : ℕ) → 0 < tail → length items ≤ c → taps.reach m ≤ c
       → given_after taps m items (replicate tail silent_frame) ≡ taps.made m (sample_before (items ++ silent_frame ∷ []) (length items)) ∷ given_after taps m (drop (length (items ++ silent_frame ∷ []) - c) (items ++ silent_frame ∷ [])) (replicate (tail - 1) silent_frame)
   rest-silence m items silent_frame zero c some held long = absurd (omega arith)
   rest-silence m items silent_frame (suc t) c some held long = rw sub-one (rest_unchanged-step m items (replicate t silent_frame) silent_frame c held long)
 
-  pub Gave-tail : (s : TapState M) (line : Frames ℤ) (silent_frame out : Samples) (clips : ℕ) → IsTapState taps s → s.pending ≡ None → 0 < s.tail → silent_frame ≡ silence (taps.channels s.arguments)
+  pub Gave-tail : (s : TapState M) (line : Frames ℤ) (silent_frame out : Samples) (clips : ℕ) → IsTapState taps s → s.core.pending ≡ None → 0 < s.tail → silent_frame ≡ silence (taps.channels s.arguments)
       → out ≡ (taps.made s.arguments (sample_before (s.line.items ++ silent_frame ∷ []) (length s.line.items))).samples
       → clips ≡ (taps.made s.arguments (sample_before (s.line.items ++ silent_frame ∷ []) (length s.line.items))).clips
       → length out ≡ taps.channels s.arguments → line.items ≡ pushed s.line silent_frame → line.capacity ≡ s.line.capacity
@@ -115,10 +112,10 @@ module _ {M : Type 0} (taps : Taps M) (near : IsNear taps) where
       let over = ended-tail s is some in
       let held = is.line.within in
       let long : taps.reach s.arguments ≤ s.line.capacity = let k = is.capacity in omega arith in
-      let counted : s.given + 0 + s.tail ≡ s.taken + s.line.capacity = rw (none, over) at is.counted in
+      let counted : s.core.given + 0 + s.tail ≡ s.core.taken + s.line.capacity = rw (none, over) at is.counted in
       let same = is.capacity in
       record {
-        was_wet = dry-tail s.pending s.tail some;
+        was_wet = dry-tail s.core.pending s.tail some;
         gives = record {
           clips = clips;
           first = λ z. rw (none, over, e, f, items, q) (rest-silence s.arguments s.line.items (silence (taps.channels s.arguments)) s.tail s.line.capacity some held long);
@@ -134,19 +131,19 @@ module _ {M : Type 0} (taps : Taps M) (near : IsNear taps) where
 pub counts-are : {M : Type 0} (taps : Taps M) (s : TapState M) (m : M) (frames : List Samples) (numbers : List ℕ) → IsTapState taps s → s.arguments ≡ m → Freezes (tap_acts taps) s frames numbers
     → AreTapCounts (taps.reach m) (taps.max_clips m) (length frames) (by_name numbers)
 counts-are taps s m frames numbers is same froze =
-    let all : length (s.line.items ++ option_to_list s.pending) ≡ length s.line.items + length (option_to_list s.pending) = length-append s.line.items (option_to_list s.pending) in
+    let all : length (s.line.items ++ pending_frames s.core) ≡ length s.line.items + length (pending_frames s.core) = length-append s.line.items (pending_frames s.core) in
     let held = is.held in
     let reach : s.line.capacity ≡ taps.reach m = is.capacity ∙ ap taps.reach same in
     rw froze.counted
     record {
-      flag = flag-le s.ended;
-      bound = is.bound;
+      flag = flag-le s.core.ended;
+      bound = is.core.bound;
       all = ap length (sym froze.stored);
-      counted = rw (← reach) (is.counted ∙ ap (λ n. s.taken + n) (flag-times s.ended s.line.capacity));
+      counted = rw (← reach) (is.counted ∙ ap (λ n. s.core.taken + n) (flag-times s.core.ended s.line.capacity));
       held = omega (arith, all, held, reach);
-      idle = is.idle;
-      over = λ some. is.over (flag-true s.ended some);
-      not_ended = λ z. is.not_ended (flag-false s.ended z);
-      clips_max = rw (← same) is.clips_max;
-      pending_max = rw (← same) is.pending_max;
+      idle = is.core.idle;
+      over = λ some. is.core.over (flag-true s.core.ended some);
+      not_ended = λ z. is.not_ended (flag-false s.core.ended z);
+      clips_max = rw (← same) is.core.clips_max;
+      pending_max = rw (← same) is.core.pending_max;
     }

@@ -1,10 +1,6 @@
 -- What stages take and give, and when (this project's profile).
-use Rattle.std.specs.Prelude.{ℕ, ◌+◌, ◌^◌, None}
-use Rattle.fx_frame_base.specs.Stage.{StageKind}
-
--- the maximum number of frames that a stage takes
-abbrev pub max_taken : ℕ
-max_taken = 2 ^ 56
+use Rattle.std.specs.Prelude.{ℕ, ◌+◌, None}
+use Rattle.fx_frame_base.specs.Stage.{StageKind, max_taken}
 
 -- a memoryless effect: each output frame depends on one input frame
 abbrev pub map_kind : ℕ → ℕ → StageKind

@@ -1,13 +1,14 @@
 -- A stage whose output frame depends on the input frame and on frames at fixed distances before it (this project's profile).
-use Rattle.std.specs.Prelude.{ℕ, ℤ, ◌+◌, ◌-◌, ◌*◌, ◌≤◌, ◌≡◌, Bool, true, false, ◌&&◌, Option, List, ◌++◌, length, drop, map, min, replicate, option_to_list, is_none, slice_index_or, nat_eq, cond}
+use Rattle.std.specs.Prelude.{ℕ, ℤ, ◌+◌, ◌-◌, ◌*◌, ◌≤◌, ◌≡◌, false, ◌&&◌, List, ◌++◌, length, drop, map, min, replicate, is_none, slice_index_or, nat_eq, cond}
 use Rattle.std.proofs.Common.{arith}
 use Rattle.std.specs.Int.{w32}
 use Rattle.fx_frame_base.specs.Frame.{Samples, silence}
 use Rattle.fx_frame_line.specs.Line.{Frames, IsLine}
-use Rattle.fx_frame_base.specs.PendingFrame.{IsPending}
 use Rattle.fx_frame_base.specs.Holds.{total}
-use Rattle.fx_frame_base.specs.Stage.{Given, Acts}
-use Rattle.fx_frame.specs.Kinds.{max_taken, tap_kind}
+use Rattle.fx_frame_base.specs.Stage.{Given, Acts, max_taken}
+use Rattle.fx_frame_base.specs.StageCore.{IsCore, core_counts, pending_frames, pending_given}
+use Rattle.fx_frame_base.specs.declared.stage_core.StageCore.{StageCore}
+use Rattle.fx_frame.specs.Kinds.{tap_kind}
 use Rattle.fx_frame.specs.History.{History, sample_before}
 use Rattle.fx_frame_base.specs.Lists.{pieces, tabulate}
 
@@ -35,17 +36,11 @@ IsNear {M} taps = (m : M) (p q : History) → Agree (taps.reach m) p q → taps.
 
 -- what a stage with such arguments stores
 pub record TapState (M : Type 0) : Type 0 where
-  pub arguments : M
+  pub core : StageCore
   pub line : Frames ℤ
-  -- the frame to be given, and how many of its samples were clipped
-  pub pending : Option Samples
-  pub pending_clips : ℕ
-  -- how many frames are to be given after it
+  -- how many frames are to be given after the pending one
   pub tail : ℕ
-  pub taken : ℕ
-  pub given : ℕ
-  pub clips : ℕ
-  pub ended : Bool
+  pub arguments : M
 
 -- the eight numbers that a stage with a tail counts, by name
 pub record TailNumbers : Type 0 where
@@ -94,20 +89,15 @@ module _ {M : Type 0} (taps : Taps M) where
 
   -- the invariant of a stage
   pub record IsTapState (s : TapState M) : Type 0 where
+    -- what holds of each core
+    pub core : IsCore (taps.channels s.arguments) (taps.max_clips s.arguments) s.core
     pub line : IsLine w32 s.line
     pub channels : s.line.channels ≡ taps.channels s.arguments
     pub capacity : s.line.capacity ≡ taps.reach s.arguments
-    pub counted : s.given + length (option_to_list s.pending) + s.tail ≡ s.taken + cond s.ended s.line.capacity 0
+    pub counted : s.core.given + length (pending_frames s.core) + s.tail ≡ s.core.taken + cond s.core.ended s.line.capacity 0
     -- each earlier frame is in the line, or was pushed out of it
-    pub held : length s.line.items ≡ min (s.given + length (option_to_list s.pending)) s.line.capacity
-    -- no clips without a pending frame, and no pending frame after the end
-    pub idle : length (option_to_list s.pending) ≡ 0 → s.pending_clips ≡ 0
-    pub over : s.ended ≡ true → length (option_to_list s.pending) ≡ 0
-    pub bound : s.taken ≤ max_taken
-    pub not_ended : s.ended ≡ false → s.tail ≡ 0
-    pub clips_max : s.clips ≤ s.given * taps.max_clips s.arguments
-    pub pending_max : s.pending_clips ≤ taps.max_clips s.arguments
-    pub fits : IsPending (taps.channels s.arguments) s.pending
+    pub held : length s.line.items ≡ min (s.core.given + length (pending_frames s.core)) s.line.capacity
+    pub not_ended : s.core.ended ≡ false → s.tail ≡ 0
 
   -- what is given for frames that follow those of the line
   abbrev pub given_after : M → List Samples → List Samples → List Given
@@ -131,23 +121,19 @@ module _ {M : Type 0} (taps : Taps M) where
 
   -- the frames that come, with silence where the sound has ended
   abbrev pub coming_of : TapState M → List Samples → List Samples
-  coming_of s z = cond s.ended (replicate s.tail (silence (taps.channels s.arguments))) (z ++ replicate s.line.capacity (silence (taps.channels s.arguments)))
-
-  -- the pending frame
-  abbrev pub tap_pending : TapState M → List Given
-  tap_pending s = map (λ x. record { samples = x; clips = s.pending_clips }) (option_to_list s.pending)
+  coming_of s z = cond s.core.ended (replicate s.tail (silence (taps.channels s.arguments))) (z ++ replicate s.line.capacity (silence (taps.channels s.arguments)))
 
   abbrev pub tap_acts : Acts (TapState M) M
   tap_acts = record {
     recipe = λ s. s.arguments;
     kind_of = λ m. tap_kind (taps.channels m) (taps.reach m);
     meaning = tapped;
-    rest = λ s z. tap_pending s ++ given_after s.arguments s.line.items (coming_of s z);
-    counts = λ s. record { taken = s.taken; given = s.given; clips = s.clips; ended = s.ended };
-    dry = λ s. is_none s.pending && nat_eq s.tail 0;
-    stored = λ s. s.line.items ++ option_to_list s.pending;
+    rest = λ s z. pending_given s.core ++ given_after s.arguments s.line.items (coming_of s z);
+    counts = λ s. core_counts s.core;
+    dry = λ s. is_none s.core.pending && nat_eq s.tail 0;
+    stored = λ s. s.line.items ++ pending_frames s.core;
     capacity = λ s. s.line.capacity;
-    state_counters = λ s. record { first = s.tail; second = length (option_to_list s.pending); third = s.pending_clips };
+    state_counters = λ s. record { first = s.tail; second = length (pending_frames s.core); third = s.core.pending_clips };
   }
 
 -- more frames taken never mean fewer frames given

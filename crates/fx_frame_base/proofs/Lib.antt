@@ -1,6 +1,7 @@
 pub mod Bytes
 pub mod Capacities
 pub mod ChannelPlaces
+pub mod Cores
 pub mod Evenly
 pub mod FedLaws
 pub mod FeedParts

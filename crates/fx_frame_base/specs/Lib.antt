@@ -15,4 +15,5 @@ pub mod Places
 pub mod Rounded
 pub mod Sink
 pub mod Stage
+pub mod StageCore
 pub mod Tape

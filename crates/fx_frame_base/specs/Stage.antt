@@ -1,4 +1,4 @@
-use Rattle.std.specs.Prelude.{ℕ, ◌+◌, ◌<◌, ◌≤◌, ◌&&◌, cond, nat_le, Bool, true, false, List, [], ◌∷◌, length, MatchResult, Ok, Option, Result, Some, None, ◌≡◌}
+use Rattle.std.specs.Prelude.{ℕ, ◌+◌, ◌^◌, ◌<◌, ◌≤◌, ◌&&◌, cond, nat_le, Bool, true, false, List, [], ◌∷◌, length, MatchResult, Ok, Option, Result, Some, None, ◌≡◌}
 use Rattle.fx_frame_base.specs.declared.stage.ThawFault.{ThawFault}
 use Rattle.fx_frame_base.specs.declared.stage.ThawFault.TheVariants.{Memory}
 use Rattle.fx_frame_base.specs.Frame.{Samples}
@@ -9,6 +9,10 @@ use Rattle.fx_frame_base.specs.Frame.{Samples}
 pub record Given : Type 0 where
   pub samples : Samples
   pub clips : ℕ
+
+-- the maximum number of frames that a stage takes, where its arguments set no smaller limit
+abbrev pub max_taken : ℕ
+max_taken = 2 ^ 56
 
 -- what the arguments of a stage determine for its whole lifetime
 pub record StageKind : Type 0 where

@@ -40,6 +40,7 @@ pub mod pipeline;
 pub mod sample;
 pub mod sink;
 pub mod stage;
+pub mod stage_core;
 pub mod tape;
 pub mod wide;
 
@@ -52,5 +53,6 @@ pub use io::{ByteIn, ByteOut, Failed, ReadBeside, Rewind};
 pub use sample::Sample;
 pub use sink::Sink;
 pub use stage::{Counters, Stage, ThawFault, Thaws};
+pub use stage_core::StageCore;
 pub use tape::Tape;
 pub use wide::WideFrame;

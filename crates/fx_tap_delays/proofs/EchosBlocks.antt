@@ -10,6 +10,8 @@ use Rattle.fx_frame_line.specs.Line.{Frames, pushed, pushed_out}
 use Rattle.fx_frame_base.specs.Lists.{pieces}
 use Rattle.fx_frame_base.specs.Pipeline.{EachThrough}
 use Rattle.fx_frame_base.specs.Stage.{Given, IsDry}
+use Rattle.fx_frame_base.specs.StageCore.{after_passing}
+use Rattle.fx_frame_base.proofs.Cores.{IsCore-passed, is-passed-core, passed_core}
 use Rattle.fx_frame_base.proofs.FedLaws.{Fed-then}
 use Rattle.fx_frame_base.proofs.Pieces.{length-pieces}
 use Rattle.fx_tap_delays.specs.Echo.{EchoArguments}
@@ -35,7 +37,7 @@ frame-wide a x gone = length-map _ _ ∙ length-tabulate _ 0 a.channels
 module _ (a : EchoArguments) where
   -- such a stage with no frame in hand, which has given what it took
   abbrev pub ready : List (Frames ℤ) → ℕ → ℕ → EchosState
-  ready lines count clips = record { arguments = a; lines = lines; pending = None; pending_clips = 0; tail = 0; taken = count; given = count; clips = clips; ended = false }
+  ready lines count clips = record { arguments = a; lines = lines; core = passed_core count clips; tail = 0 }
 
   -- what is given for a frame, and the lines after it
   abbrev pub made : List (Frames ℤ) → Samples → Given
@@ -48,7 +50,7 @@ module _ (a : EchoArguments) where
       → PassedOn echos_acts Through (ready lines count clips) (ready (next lines x) (count + 1) (clips + (made lines x).clips)) x (made lines x).samples
   one-passed lines count clips x places =
       let first : EchosState = ready lines count clips in
-      let mid : EchosState = record { arguments = a; lines = next lines x; pending = Some (made lines x).samples; pending_clips = (made lines x).clips; tail = 0; taken = count + 1; given = count; clips = clips; ended = false } in
+      let mid : EchosState = record { arguments = a; lines = next lines x; core = record (passed_core count clips) { pending = Some (made lines x).samples; pending_clips = (made lines x).clips; taken = count + 1 }; tail = 0 } in
       let last : EchosState = ready (next lines x) (count + 1) (clips + (made lines x).clips) in
       let bound = after-bound a.channels lines x (replicate a.channels (pos 0)) in
       let took : TookNext echos_acts first mid x = record {
@@ -108,30 +110,30 @@ module _ (a : EchoArguments) where
       )
 
 -- such a stage is one with no frame in hand that has not ended
-ready-is : (s : EchosState) → IsEchos s → s.pending ≡ None → s.ended ≡ false → ready s.arguments s.lines s.taken s.clips ≡ s
+ready-is : (s : EchosState) → IsEchos s → s.core.pending ≡ None → s.core.ended ≡ false → ready s.arguments s.lines s.core.taken s.core.clips ≡ s
 ready-is s is none running =
-    let zero : s.pending_clips ≡ 0 = is.idle (rw none refl) in
+    let zero : s.core.pending_clips ≡ 0 = is.core.idle (rw none refl) in
     let no_tail : s.tail ≡ 0 = is.not_ended running in
-    let counted : s.given + 0 + s.tail ≡ s.taken + 0 = rw (none, running) at is.counted in
-    let even : s.given ≡ s.taken = omega (arith, counted, no_tail) in
-    let whole : ◌≡◌ {A = EchosState} (record { arguments = s.arguments; lines = s.lines; pending = s.pending; pending_clips = s.pending_clips; tail = s.tail; taken = s.taken; given = s.given; clips = s.clips; ended = s.ended }) (ready s.arguments s.lines s.taken s.clips) = rw (none, zero, no_tail, running, even) refl in
-    sym whole
+    let counted : s.core.given + 0 + s.tail ≡ s.core.taken + 0 = rw (none, running) at is.counted in
+    let even : s.core.given ≡ s.core.taken = omega (arith, counted, no_tail) in
+    let core = sym (is-passed-core s.core none zero running even) in
+    rw (core, ← no_tail) refl
 
 -- the stage after so many frames went through it
 abbrev pub passed_echos : EchosState → List (Frames ℤ) → ℕ → ℕ → EchosState
-passed_echos s lines n clips = record s { lines = lines; taken = s.taken + n; given = s.given + n; clips = s.clips + clips }
+passed_echos s lines n clips = record s { lines = lines; core = after_passing n clips s.core }
 
-module _ (s : EchosState) (lines : List (Frames ℤ)) (is : IsEchos s) (none : s.pending ≡ None) (running : s.ended ≡ false) where
+module _ (s : EchosState) (lines : List (Frames ℤ)) (is : IsEchos s) (none : s.core.pending ≡ None) (running : s.core.ended ≡ false) where
   -- one frame, passed on in its place
   pub frame-passed : (x y : Samples) (clips : ℕ) → y ≡ (made s.arguments s.lines x).samples → clips ≡ (made s.arguments s.lines x).clips → lines ≡ next s.arguments s.lines x → PassedOn echos_acts Through s (passed_echos s lines 1 clips) x y
   frame-passed x y clips out_is counted went =
       rw (out_is, counted, went)
-      (subst (λ (u : EchosState). PassedOn echos_acts Through u (passed_echos u (next s.arguments s.lines x) 1 (made s.arguments s.lines x).clips) x (made s.arguments s.lines x).samples) (ready-is s is none running) (one-passed s.arguments s.lines s.taken s.clips x (places-late s is)))
+      (subst (λ (u : EchosState). PassedOn echos_acts Through u (passed_echos u (next s.arguments s.lines x) 1 (made s.arguments s.lines x).clips) x (made s.arguments s.lines x).samples) (ready-is s is none running) (one-passed s.arguments s.lines s.core.taken s.core.clips x (places-late s is)))
 
   module _ (n clips : ℕ) (input output : List ℤ) (out_is : pieces s.arguments.channels n output ≡ map (λ (g : Given). g.samples) (through_lines s.arguments s.lines (pieces s.arguments.channels n input)))
       (counted : clips ≡ total (λ (g : Given). g.clips) (through_lines s.arguments s.lines (pieces s.arguments.channels n input))) (went : lines ≡ series_lines_after s.arguments.channels s.lines (pieces s.arguments.channels n input)) where
     block-of : (P : List Samples → EchosState → EchosState → Type 0)
-        → P (map (λ (g : Given). g.samples) (through_lines s.arguments s.lines (pieces s.arguments.channels n input))) (ready s.arguments s.lines s.taken s.clips) (ready s.arguments (series_lines_after s.arguments.channels s.lines (pieces s.arguments.channels n input)) (s.taken + length (pieces s.arguments.channels n input)) (s.clips + total (λ (g : Given). g.clips) (through_lines s.arguments s.lines (pieces s.arguments.channels n input))))
+        → P (map (λ (g : Given). g.samples) (through_lines s.arguments s.lines (pieces s.arguments.channels n input))) (ready s.arguments s.lines s.core.taken s.core.clips) (ready s.arguments (series_lines_after s.arguments.channels s.lines (pieces s.arguments.channels n input)) (s.core.taken + length (pieces s.arguments.channels n input)) (s.core.clips + total (λ (g : Given). g.clips) (through_lines s.arguments s.lines (pieces s.arguments.channels n input))))
         → P (pieces s.arguments.channels n output) s (passed_echos s lines n clips)
     block-of P p =
         let gs : List Given = through_lines s.arguments s.lines (pieces s.arguments.channels n input) in
@@ -141,32 +143,26 @@ module _ (s : EchosState) (lines : List (Frames ℤ)) (is : IsEchos s) (none : s
 
     -- a block of frames: the counters are added to once
     pub block-fed : Fed echos_acts s (pieces s.arguments.channels n input) (pieces s.arguments.channels n output) (passed_echos s lines n clips)
-    block-fed = block-of (λ ys u v. Fed echos_acts u (pieces s.arguments.channels n input) ys v) (lines-fed s.arguments (pieces s.arguments.channels n input) s.lines s.taken s.clips (places-late s is))
+    block-fed = block-of (λ ys u v. Fed echos_acts u (pieces s.arguments.channels n input) ys v) (lines-fed s.arguments (pieces s.arguments.channels n input) s.lines s.core.taken s.core.clips (places-late s is))
 
     -- the same, each frame given before the next is taken
     pub block-through : EachThrough echos_acts (pieces s.arguments.channels n input) (pieces s.arguments.channels n output) s (passed_echos s lines n clips)
-    block-through = block-of (λ ys u v. EachThrough echos_acts (pieces s.arguments.channels n input) ys u v) (lines-through s.arguments (pieces s.arguments.channels n input) s.lines s.taken s.clips (places-late s is))
+    block-through = block-of (λ ys u v. EachThrough echos_acts (pieces s.arguments.channels n input) ys u v) (lines-through s.arguments (pieces s.arguments.channels n input) s.lines s.core.taken s.core.clips (places-late s is))
 
 -- the state after it
-pub IsEchos-block : (s : EchosState) (lines : List (Frames ℤ)) (n clips : ℕ) → IsEchos s → s.pending ≡ None → s.ended ≡ false → s.taken + n ≤ 2 ^ 56 → length lines ≡ length s.lines
+pub IsEchos-block : (s : EchosState) (lines : List (Frames ℤ)) (n clips : ℕ) → IsEchos s → s.core.pending ≡ None → s.core.ended ≡ false → s.core.taken + n ≤ 2 ^ 56 → length lines ≡ length s.lines
     → ((j : ℕ) → j < length lines → IsEchoLine s.arguments.channels (came_of s + n) j (delay_at s.arguments.taps j) (line_at lines j)) → clips ≤ n * 16
     → IsEchos (passed_echos s lines n clips)
 IsEchos-block s lines n clips is none running bound many sound little =
-    let counted : s.given + 0 + s.tail ≡ s.taken + 0 = rw (none, running) at is.counted in
-    let came : s.given + 0 + n ≡ s.given + n + 0 = omega arith in
+    let counted : s.core.given + 0 + s.tail ≡ s.core.taken + 0 = rw (none, running) at is.counted in
+    let came : s.core.given + 0 + n ≡ s.core.given + n + 0 = omega arith in
     let now = rw (none, came) at sound in
-    let clipped = is.clips_max in
     record {
       arguments = is.arguments;
       whole = is.whole;
       as_many = many ∙ is.as_many;
       lines = rw none now;
       counted = rw (none, running) (omega arith);
-      bound = bound;
       not_ended = is.not_ended;
-      clips_max = omega arith;
-      pending_max = is.pending_max;
-      idle = is.idle;
-      over = is.over;
-      fits = is.fits;
+      core = IsCore-passed s.arguments.channels 16 n clips s.core is.core bound little;
     }

@@ -10,6 +10,7 @@ use Rattle.fx_tap_delays.specs.DelayExtents.{sum_of_delays}
 use Rattle.fx_frame_base.specs.Frame.{Samples, silence, IsFrame}
 use Rattle.fx_frame_line.specs.Line.{Frames, IsSamples, pushed_out, empty}
 use Rattle.fx_frame_base.specs.Stage.{Gave}
+use Rattle.fx_frame_base.specs.StageCore.{new_core}
 use Rattle.fx_tap_delays.specs.Echo.{EchoArguments, IsEcho}
 use Rattle.fx_tap_delays.specs.EchosState.{EchosState, IsEchos, IsEchoLine, IsSeriesLine, after_push, came_of, delay_at, echos_acts, fed, frame_of_lines, frames_of_lines, let_go, line_at, lines_after, or_silence, echo_places, series_lines_after, through_lines}
 use Rattle.fx_frame.proofs.DryLaws.{dry-pending, dry-tail}
@@ -135,14 +136,14 @@ series_after s x = lines_after s.arguments.channels s.lines x (replicate s.argum
 
 -- the state after a frame came
 abbrev pub taken_echos : EchosState → List (Frames ℤ) → Samples → ℕ → EchosState
-taken_echos s lines out clips = record s { lines = lines; pending = Some out; pending_clips = clips; taken = s.taken + 1 }
+taken_echos s lines out clips = record s { lines = lines; core = record s.core { pending = Some out; pending_clips = clips; taken = s.core.taken + 1 } }
 
-pub IsEchos-taken : (s : EchosState) (lines : List (Frames ℤ)) (frame out : Samples) (clips : ℕ) → IsEchos s → echos_acts.dry s ≡ true → s.ended ≡ false → s.taken < 2 ^ 56 → lines ≡ series_after s frame → Small (2 ^ 31) frame
+pub IsEchos-taken : (s : EchosState) (lines : List (Frames ℤ)) (frame out : Samples) (clips : ℕ) → IsEchos s → echos_acts.dry s ≡ true → s.core.ended ≡ false → s.core.taken < 2 ^ 56 → lines ≡ series_after s frame → Small (2 ^ 31) frame
     → clips ≤ 16 → IsFrame out → length out ≡ s.arguments.channels → IsEchos (taken_echos s lines out clips)
 IsEchos-taken s lines frame out clips is dry running bound lines_are small clips_bound framed long =
-    let none = dry-pending s.pending s.tail dry in
-    let counted : s.given + 0 + s.tail ≡ s.taken + 0 = rw (none, running) at is.counted in
-    let came : s.given + 0 + 1 ≡ s.given + 1 = omega arith in
+    let none = dry-pending s.core.pending s.tail dry in
+    let counted : s.core.given + 0 + s.tail ≡ s.core.taken + 0 = rw (none, running) at is.counted in
+    let came : s.core.given + 0 + 1 ≡ s.core.given + 1 = omega arith in
     let sound = rw (none, came) at (lines-sound s frame is small) in
     record {
       arguments = is.arguments;
@@ -150,34 +151,36 @@ IsEchos-taken s lines frame out clips is dry running bound lines_are small clips
       as_many = ap length lines_are ∙ length-after s.arguments.channels s.lines frame (replicate s.arguments.channels (pos 0)) ∙ is.as_many;
       lines = rw lines_are sound;
       counted = rw running (omega arith);
-      bound = omega arith;
       not_ended = is.not_ended;
-      clips_max = is.clips_max;
-      pending_max = clips_bound;
-      idle = λ none. absurd (omega arith);
-      over = λ ended. absurd (cc (running, ended));
-      fits = λ x q. let same : out ≡ x = cc in (rw (← same) framed, rw (← same) long);
+      core = record {
+        bound = omega arith;
+        clips_max = is.core.clips_max;
+        pending_max = clips_bound;
+        idle = λ none. absurd (omega arith);
+        over = λ ended. absurd (cc (running, ended));
+        fits = λ x q. let same : out ≡ x = cc in (rw (← same) framed, rw (← same) long);
+      };
     }
 
-ended-tail : (s : EchosState) → IsEchos s → 0 < s.tail → s.ended ≡ true
-ended-tail s is some = true_from_ne_false s.ended (λ e. let k = is.not_ended e in absurd (omega arith))
+ended-tail : (s : EchosState) → IsEchos s → 0 < s.tail → s.core.ended ≡ true
+ended-tail s is some = true_from_ne_false s.core.ended (λ e. let k = is.not_ended e in absurd (omega arith))
 
 -- the state after a silent frame went through the lines
 abbrev pub drained_echos : EchosState → List (Frames ℤ) → ℕ → EchosState
-drained_echos s lines clips = record s { lines = lines; tail = s.tail - 1; given = s.given + 1; clips = s.clips + clips }
+drained_echos s lines clips = record s { lines = lines; core = record s.core { given = s.core.given + 1; clips = s.core.clips + clips }; tail = s.tail - 1 }
 
 silence-step : (a : EchoArguments) (lines : List (Frames ℤ)) (silent_frame : Samples) (tail : ℕ) → 0 < tail
     → through_lines a lines (replicate tail silent_frame) ≡ frame_of_lines a silent_frame (let_go a.channels lines silent_frame (replicate a.channels (pos 0))) ∷ through_lines a (lines_after a.channels lines silent_frame (replicate a.channels (pos 0))) (replicate (tail - 1) silent_frame)
 silence-step a lines silent_frame zero some = absurd (omega arith)
 silence-step a lines silent_frame (suc t) some = rw sub-one refl
 
-pub Gave-silence : (s : EchosState) (lines : List (Frames ℤ)) (silent_frame out : Samples) (clips : ℕ) → IsEchos s → s.pending ≡ None → 0 < s.tail → silent_frame ≡ silence s.arguments.channels → lines ≡ series_after s silent_frame
+pub Gave-silence : (s : EchosState) (lines : List (Frames ℤ)) (silent_frame out : Samples) (clips : ℕ) → IsEchos s → s.core.pending ≡ None → 0 < s.tail → silent_frame ≡ silence s.arguments.channels → lines ≡ series_after s silent_frame
     → out ≡ (frame_of_lines s.arguments silent_frame (series_gone s silent_frame)).samples → clips ≡ (frame_of_lines s.arguments silent_frame (series_gone s silent_frame)).clips → length out ≡ s.arguments.channels → Gave echos_acts s (drained_echos s lines clips) out
 Gave-silence s lines silent_frame out clips is none some q lines_are out_is clips_are long =
     let over = ended-tail s is some in
-    let counted : s.given + 0 + s.tail ≡ s.taken + sum_of_delays s.arguments.taps = rw (none, over) at is.counted in
+    let counted : s.core.given + 0 + s.tail ≡ s.core.taken + sum_of_delays s.arguments.taps = rw (none, over) at is.counted in
     record {
-      was_wet = dry-tail s.pending s.tail some;
+      was_wet = dry-tail s.core.pending s.tail some;
       gives = record {
         clips = clips;
         first = λ z. rw (none, over, lines_are, out_is, clips_are, q) (silence-step s.arguments s.lines (silence s.arguments.channels) s.tail some);
@@ -189,26 +192,21 @@ Gave-silence s lines silent_frame out clips is none some q lines_are out_is clip
       recipe_stays = refl;
     }
 
-pub IsEchos-drained : (s : EchosState) (lines : List (Frames ℤ)) (silent_frame : Samples) (clips : ℕ) → IsEchos s → s.pending ≡ None → 0 < s.tail → Small (2 ^ 31) silent_frame → lines ≡ series_after s silent_frame → clips ≤ 16 → IsEchos (drained_echos s lines clips)
+pub IsEchos-drained : (s : EchosState) (lines : List (Frames ℤ)) (silent_frame : Samples) (clips : ℕ) → IsEchos s → s.core.pending ≡ None → 0 < s.tail → Small (2 ^ 31) silent_frame → lines ≡ series_after s silent_frame → clips ≤ 16 → IsEchos (drained_echos s lines clips)
 IsEchos-drained s lines silent_frame clips is none some small lines_are clips_bound =
     let over = ended-tail s is some in
-    let counted : s.given + 0 + s.tail ≡ s.taken + sum_of_delays s.arguments.taps = rw (none, over) at is.counted in
-    let came : s.given + 0 + 1 ≡ s.given + 1 + 0 = omega arith in
+    let counted : s.core.given + 0 + s.tail ≡ s.core.taken + sum_of_delays s.arguments.taps = rw (none, over) at is.counted in
+    let came : s.core.given + 0 + 1 ≡ s.core.given + 1 + 0 = omega arith in
     let sound = rw (none, came) at (lines-sound s silent_frame is small) in
-    let bound = is.clips_max in
+    let bound = is.core.clips_max in
     record {
       arguments = is.arguments;
       whole = is.whole;
       as_many = ap length lines_are ∙ length-after s.arguments.channels s.lines silent_frame (replicate s.arguments.channels (pos 0)) ∙ is.as_many;
       lines = rw (lines_are, none) sound;
       counted = rw (none, over) (omega arith);
-      bound = is.bound;
       not_ended = λ e. let k = is.not_ended e in omega arith;
-      clips_max = omega arith;
-      pending_max = is.pending_max;
-      idle = is.idle;
-      over = is.over;
-      fits = is.fits;
+      core = record { bound = is.core.bound; clips_max = omega arith; pending_max = is.core.pending_max; idle = is.core.idle; over = is.core.over; fits = is.core.fits };
     }
 
 -- ---- a new one
@@ -228,8 +226,7 @@ empty-line c j d some bound late small = record {
   small = All-nil (All (λ x. unsigned_abs x ≤ (j + 1) * 2 ^ 31));
 }
 
-pub IsEchos-new : (a : EchoArguments) → IsEcho a → sum_of_delays a.taps ≤ 2 ^ 28
-    → IsEchos (record { arguments = a; lines = map (λ e. empty a.channels e.0) a.taps; pending = None; pending_clips = 0; tail = 0; taken = 0; given = 0; clips = 0; ended = false })
+pub IsEchos-new : (a : EchoArguments) → IsEcho a → sum_of_delays a.taps ≤ 2 ^ 28 → IsEchos (record { arguments = a; lines = map (λ e. empty a.channels e.0) a.taps; core = new_core; tail = 0 })
 IsEchos-new a is whole = record {
   arguments = is;
   whole = whole;
@@ -241,13 +238,15 @@ IsEchos-new a is whole = record {
       rw (get_or-map (λ e. empty {X = ℤ} a.channels e.0) a.taps j (0, pos 0) (empty {X = ℤ} 0 0) within)
       (empty-line a.channels j (delay_at a.taps j) is.some is.bound (All-get_or (λ e. 1 ≤ e.0) a.taps j (0, pos 0) within is.delays) (omega arith));
   counted = refl;
-  bound = omega arith;
   not_ended = λ e. refl;
-  clips_max = omega arith;
-  pending_max = omega arith;
-  idle = λ none. refl;
-  over = λ ended. refl;
-  fits = λ x q. absurd (cc);
+  core = record {
+    bound = omega arith;
+    clips_max = omega arith;
+    pending_max = omega arith;
+    idle = λ none. refl;
+    over = λ ended. refl;
+    fits = λ x q. absurd (cc);
+  };
 }
 
 -- no frame is stored

@@ -1,18 +1,18 @@
 -- The stage of `echos`: lines in series, its invariant, and what it is still to give (this project's profile).
-use Rattle.std.specs.Prelude.{ℕ, ℤ, pos, ◌+◌, ◌*◌, ◌^◌, ◌<◌, ◌≤◌, ◌≡◌, ◌+ℤ◌, ◌*ℤ◌, Bool, true, false, ◌&&◌, Option, Some, None, List, [], ◌∷◌, ◌++◌, length, map, min, replicate, take, option_to_list, is_none, slice_index_or, nat_eq, cond, unsigned_abs, drop, Result}
+use Rattle.std.specs.Prelude.{ℕ, ℤ, pos, ◌+◌, ◌*◌, ◌^◌, ◌<◌, ◌≤◌, ◌≡◌, ◌+ℤ◌, ◌*ℤ◌, false, ◌&&◌, Option, Some, None, List, [], ◌∷◌, ◌++◌, length, map, min, replicate, take, is_none, slice_index_or, nat_eq, cond, unsigned_abs, drop, Result}
 use Rattle.std.specs.List.{All}
 use Rattle.std.specs.Int.{w64}
 use Rattle.fx_tap_delays.specs.DelayExtents.{sum_of_delays}
 use Rattle.fx_fixed.specs.Rounding.{rounding}
 use Rattle.fx_frame_base.specs.declared.stage.ThawFault.{ThawFault}
+use Rattle.fx_frame_base.specs.declared.stage_core.StageCore.{StageCore}
 use Rattle.fx_frame_base.specs.Frame.{Samples, silence}
 use Rattle.fx_frame_base.specs.Holds.{total}
-use Rattle.fx_frame_base.specs.PendingFrame.{IsPending}
+use Rattle.fx_frame_base.specs.StageCore.{IsCore, core_counts, pending_frames, pending_given}
 use Rattle.fx_frame_line.specs.Line.{Frames, IsLine, pushed, pushed_out, channel_of, empty}
 use Rattle.fx_frame_base.specs.Stage.{Acts, Given, Restores}
 use Rattle.fx_tap_delays.specs.Echo.{EchoArguments, IsEcho}
 use Rattle.fx_frame_base.specs.Lists.{pieces, tabulate}
-use Rattle.fx_frame.specs.Kinds.{max_taken}
 use Rattle.fx_tap_sums.specs.Products.{sum_of_products}
 use Rattle.fx_frame_base.specs.Given.{given_samples}
 use Rattle.fx_tap_delays.specs.Echos.{decays, echos, echos_kind}
@@ -62,15 +62,9 @@ through_lines a lines (x ∷ xs) = frame_of_lines a x (let_go a.channels lines x
 pub record EchosState : Type 0 where
   pub arguments : EchoArguments
   pub lines : List (Frames ℤ)
-  -- the frame to be given, and how many of its samples were clipped
-  pub pending : Option Samples
-  pub pending_clips : ℕ
-  -- how many frames are to be given after it
+  pub core : StageCore
+  -- how many frames are to be given after the pending one
   pub tail : ℕ
-  pub taken : ℕ
-  pub given : ℕ
-  pub clips : ℕ
-  pub ended : Bool
 
 -- what a frame that comes needs of the line at place j: no sample is greater than j + 1 samples added
 pub record IsSeriesLine (channels j : ℕ) (l : Frames ℤ) : Type 0 where
@@ -88,7 +82,7 @@ pub record IsEchoLine (channels came j delay : ℕ) (l : Frames ℤ) : Type 0 wh
 
 -- how many frames went through the lines
 abbrev pub came_of : EchosState → ℕ
-came_of s = s.given + length (option_to_list s.pending)
+came_of s = s.core.given + length (pending_frames s.core)
 
 -- the delay of the line at place j
 abbrev pub delay_at : List (ℕ × ℤ) → ℕ → ℕ
@@ -103,23 +97,14 @@ pub record IsEchos (s : EchosState) : Type 0 where
   pub whole : sum_of_delays s.arguments.taps ≤ 2 ^ 28
   pub as_many : length s.lines ≡ length s.arguments.taps
   pub lines : (j : ℕ) → j < length s.lines → IsEchoLine s.arguments.channels (came_of s) j (delay_at s.arguments.taps j) (line_at s.lines j)
-  pub counted : came_of s + s.tail ≡ s.taken + cond s.ended (sum_of_delays s.arguments.taps) 0
-  pub bound : s.taken ≤ max_taken
-  pub not_ended : s.ended ≡ false → s.tail ≡ 0
-  pub clips_max : s.clips ≤ 16 * s.given
-  pub pending_max : s.pending_clips ≤ 16
-  -- no clips without a pending frame, and no pending frame after the end
-  pub idle : length (option_to_list s.pending) ≡ 0 → s.pending_clips ≡ 0
-  pub over : s.ended ≡ true → length (option_to_list s.pending) ≡ 0
-  pub fits : IsPending s.arguments.channels s.pending
+  pub counted : came_of s + s.tail ≡ s.core.taken + cond s.core.ended (sum_of_delays s.arguments.taps) 0
+  pub not_ended : s.core.ended ≡ false → s.tail ≡ 0
+  -- what holds of each core
+  pub core : IsCore s.arguments.channels 16 s.core
 
 -- the frames that come, with silence where the sound has ended
 abbrev pub echos_coming : EchosState → List Samples → List Samples
-echos_coming s z = cond s.ended (replicate s.tail (silence s.arguments.channels)) (z ++ replicate (sum_of_delays s.arguments.taps) (silence s.arguments.channels))
-
--- the pending frame
-abbrev pub echos_pending : EchosState → List Given
-echos_pending s = map (λ x. record { samples = x; clips = s.pending_clips }) (option_to_list s.pending)
+echos_coming s z = cond s.core.ended (replicate s.tail (silence s.arguments.channels)) (z ++ replicate (sum_of_delays s.arguments.taps) (silence s.arguments.channels))
 
 -- the frames of all lines, from the first line to the last
 abbrev pub frames_of_lines : List (Frames ℤ) → List Samples
@@ -136,12 +121,12 @@ echos_acts = record {
   recipe = λ s. s.arguments;
   kind_of = echos_kind;
   meaning = echos;
-  rest = λ s z. echos_pending s ++ through_lines s.arguments s.lines (echos_coming s z);
-  counts = λ s. record { taken = s.taken; given = s.given; clips = s.clips; ended = s.ended };
-  dry = λ s. is_none s.pending && nat_eq s.tail 0;
-  stored = λ s. frames_of_lines s.lines ++ option_to_list s.pending;
+  rest = λ s z. pending_given s.core ++ through_lines s.arguments s.lines (echos_coming s z);
+  counts = λ s. core_counts s.core;
+  dry = λ s. is_none s.core.pending && nat_eq s.tail 0;
+  stored = λ s. frames_of_lines s.lines ++ pending_frames s.core;
   capacity = λ s. echo_places s.lines;
-  state_counters = λ s. record { first = s.tail; second = length (option_to_list s.pending); third = s.pending_clips };
+  state_counters = λ s. record { first = s.tail; second = length (pending_frames s.core); third = s.core.pending_clips };
 }
 
 -- the invariant of the lines of these echoes after `came` frames came

@@ -9,8 +9,8 @@ ghost use Rattle.fx_tap_delays.specs.Delay.{delayed_frame, every_delay};
 ghost use Rattle.fx_tap_delays.specs.DelayState.{delay_acts, delay_taps, RestoresDelay, NoShorterDelay, frame_leaving, frames_leaving};
 ghost use Rattle.fx_tap_delays.specs.Near.{delays-near};
 ghost use Rattle.std.proofs.Common.{zero-le};
-ghost use Rattle.fx_tap_delays.specs.Tapping.{history_after};
-ghost use Rattle.fx_frame.specs.Tapped.{MakesBlock, clips_in_block};
+ghost use Rattle.fx_tap_delays.specs.Tapping.{CountsClips, IsLineFor, history_after};
+ghost use Rattle.fx_frame.specs.Tapped.{MakesBlock};
 
 pub mod words;
 
@@ -313,15 +313,12 @@ impl Delays {
         samples: &mut [i32],
         count: usize,
     ) -> u64
-        requires channels { line.old.channels ≡ length self.now }
-        requires capacity { line.old.capacity ≡ largest self.now }
+        requires line { IsLineFor delay_taps self.now line.old }
         requires bound { count ≤ 2 ^ 56 }
         requires group { (length samples.old ≤ PLACES) × (PLACES ≤ 64) }
         requires samples { length samples.old ≡ count * length self.now }
         ensures frames { MakesBlock delay_taps self.now line.old.items count samples.old samples.new }
-        ensures clips { result ≡ clips_in_block delay_taps self.now line.old.items count samples.old }
-        ensures bound { result ≤ count * delay_taps.max_clips self.now }
-        ensures small { result ≤ 16 * count }
+        ensures clips { CountsClips delay_taps self.now line.old.items count samples.old result }
         ensures line { line.new.items ≡ pushed_all line.old (pieces (length self.now) count samples.old) }
         ensures line_capacity { line.new.capacity ≡ line.old.capacity }
         ensures line_channels { line.new.channels ≡ line.old.channels }

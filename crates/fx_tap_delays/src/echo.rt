@@ -13,7 +13,7 @@ ghost use Rattle.fx_tap_sums.specs.Weights.{SoundsAs, AreSmall};
 ghost use Rattle.fx_tap_delays.specs.EchoWeights.{weighed, one_echo_frame, AreEchoSums};
 ghost use Rattle.fx_tap_delays.specs.Near.{taps-near};
 ghost use Rattle.fx_tap_delays.specs.Sums.{AddsToEach};
-ghost use Rattle.fx_tap_delays.specs.Tapping.{history_after};
+ghost use Rattle.fx_tap_delays.specs.Tapping.{CountsClips, IsLineFor, history_after};
 ghost use Rattle.fx_frame.specs.Tapped.{MakesBlock, clips_in_block};
 
 pub mod words;
@@ -369,8 +369,7 @@ impl PreparedEcho {
     ) -> u64
         requires sounds { SoundsAs self.now.gain_in self.now.gain_out self.now.taps small.now }
         requires one { length self.now.taps ≡ 1 }
-        requires channels { line.old.channels ≡ self.now.channels }
-        requires capacity { line.old.capacity ≡ largest (map tap_delay self.now.taps) }
+        requires line { IsLineFor echo_taps self.now line.old }
         requires frame { length samples.old ≡ self.now.channels }
         requires bound { length samples.old ≤ 16 }
         requires free { length came.old ≡ length samples.old }
@@ -393,8 +392,7 @@ impl PreparedEcho {
     fn one_over(&self, small: &SmallWeights, line: &mut Line, samples: &mut [i32]) -> u64
         requires sounds { SoundsAs self.now.gain_in self.now.gain_out self.now.taps small.now }
         requires one { length self.now.taps ≡ 1 }
-        requires channels { line.old.channels ≡ self.now.channels }
-        requires capacity { line.old.capacity ≡ largest (map tap_delay self.now.taps) }
+        requires line { IsLineFor echo_taps self.now line.old }
         requires frame { length samples.old ≡ self.now.channels }
         requires bound { length samples.old ≤ 16 }
         ensures frame { samples.new ≡ (echoed_frame self.now (history_after line.old.items samples.old)).samples }
@@ -417,8 +415,7 @@ impl PreparedEcho {
     fn one_through_places(&self, small: &SmallWeights, line: &mut Line, samples: &mut [i32]) -> u64
         requires sounds { SoundsAs self.now.gain_in self.now.gain_out self.now.taps small.now }
         requires one { length self.now.taps ≡ 1 }
-        requires channels { line.old.channels ≡ self.now.channels }
-        requires capacity { line.old.capacity ≡ largest (map tap_delay self.now.taps) }
+        requires line { IsLineFor echo_taps self.now line.old }
         requires frame { length samples.old ≡ self.now.channels }
         requires bound { length samples.old ≤ 16 }
         ensures frame { samples.new ≡ (echoed_frame self.now (history_after line.old.items samples.old)).samples }
@@ -447,14 +444,12 @@ impl PreparedEcho {
     ) -> u64
         requires sounds { SoundsAs self.now.gain_in self.now.gain_out self.now.taps small.now }
         requires one { length self.now.taps ≡ 1 }
-        requires channels { line.old.channels ≡ self.now.channels }
-        requires capacity { line.old.capacity ≡ largest (map tap_delay self.now.taps) }
+        requires line { IsLineFor echo_taps self.now line.old }
         requires bound { count ≤ 2 ^ 56 }
         requires group { (length samples.old ≤ PLACES) × (PLACES ≤ 64) }
         requires samples { length samples.old ≡ count * self.now.channels }
         ensures frames { MakesBlock echo_taps self.now line.old.items count samples.old samples.new }
-        ensures clips { result ≡ clips_in_block echo_taps self.now line.old.items count samples.old }
-        ensures bound { result ≤ count * 16 }
+        ensures clips { CountsClips echo_taps self.now line.old.items count samples.old result }
         ensures line { line.new.items ≡ pushed_all line.old (pieces self.now.channels count samples.old) }
         ensures line_capacity { line.new.capacity ≡ line.old.capacity }
         ensures line_channels { line.new.channels ≡ line.old.channels }
@@ -480,14 +475,12 @@ impl PreparedEcho {
     ) -> u64
         requires sounds { SoundsAs self.now.gain_in self.now.gain_out self.now.taps small.now }
         requires late { All (λ e. count ≤ e.0) self.now.taps }
-        requires channels { line.old.channels ≡ self.now.channels }
-        requires capacity { line.old.capacity ≡ largest (map tap_delay self.now.taps) }
+        requires line { IsLineFor echo_taps self.now line.old }
         requires bound { count ≤ 2 ^ 56 }
         requires group { (length samples.old ≤ PLACES) × (PLACES ≤ 64) }
         requires samples { length samples.old ≡ count * self.now.channels }
         ensures frames { MakesBlock echo_taps self.now line.old.items count samples.old samples.new }
-        ensures clips { result ≡ clips_in_block echo_taps self.now line.old.items count samples.old }
-        ensures bound { result ≤ count * 16 }
+        ensures clips { CountsClips echo_taps self.now line.old.items count samples.old result }
         ensures line { line.new.items ≡ pushed_all line.old (pieces self.now.channels count samples.old) }
         ensures line_capacity { line.new.capacity ≡ line.old.capacity }
         ensures line_channels { line.new.channels ≡ line.old.channels }

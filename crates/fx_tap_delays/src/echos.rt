@@ -24,6 +24,7 @@ use fx_frame_base::feed::{feed_by_frames, frame_at};
 use fx_frame_base::frame::MAX_CHANNELS;
 use fx_frame_base::pending::stored_pending;
 use fx_frame_base::stage::MAX_TAKEN;
+use fx_frame_base::stage_core::StageCore;
 use fx_tap_sums::inner::{Sums, add_places, add_products, add_samples, add_wide_products};
 use fx_tap_sums::weights::{SmallWeights, small_of};
 use std::alloc::{AllocError, Global};
@@ -33,8 +34,7 @@ use std::marker::Model;
 /// times gain-out and rounded once. A sample that is clipped counts for one clip.
 #[derive(Drop)]
 pub struct Echos {
-    pending: Option<Frame>,
-    pending_clips: u64,
+    core: StageCore,
     channels: usize,
     gain_in: Gain,
     gain_out: Gain,
@@ -42,10 +42,6 @@ pub struct Echos {
     small: Option<SmallWeights>,
     lines: Vec<WideLine>,
     tail: u64,
-    taken: u64,
-    given: u64,
-    clips: u64,
-    ended: bool,
 }
 
 impl Model for Echos {
@@ -56,9 +52,9 @@ impl Model for Echos {
 
     ghost Value = { EchosState };
 
-    ghost view = { λ s. record { arguments = record { channels = s.channels; gain_in = s.gain_in; gain_out = s.gain_out; taps = s.taps.items }; lines = s.lines.items; pending = s.pending; pending_clips = s.pending_clips; tail = s.tail; taken = s.taken; given = s.given; clips = s.clips; ended = s.ended } };
+    ghost view = { λ s. record { arguments = record { channels = s.channels; gain_in = s.gain_in; gain_out = s.gain_out; taps = s.taps.items }; lines = s.lines.items; core = s.core; tail = s.tail } };
 
-    ghost invariant = { λ s. IsEchos (record { arguments = record { channels = s.channels; gain_in = s.gain_in; gain_out = s.gain_out; taps = s.taps.items }; lines = s.lines.items; pending = s.pending; pending_clips = s.pending_clips; tail = s.tail; taken = s.taken; given = s.given; clips = s.clips; ended = s.ended }) × IfSome s.small (Suits (record { channels = s.channels; gain_in = s.gain_in; gain_out = s.gain_out; taps = s.taps.items })) };
+    ghost invariant = { λ s. IsEchos (record { arguments = record { channels = s.channels; gain_in = s.gain_in; gain_out = s.gain_out; taps = s.taps.items }; lines = s.lines.items; core = s.core; tail = s.tail }) × IfSome s.small (Suits (record { channels = s.channels; gain_in = s.gain_in; gain_out = s.gain_out; taps = s.taps.items })) };
 }
 
 /// A frame and what the line before output, added.
@@ -507,8 +503,7 @@ impl Echos {
         let lines = empty_lines(alloc, channels, taps)?;
         let taps = copied(alloc, taps)?;
         Ok(Echos {
-            pending: None,
-            pending_clips: 0,
+            core: StageCore::new(),
             channels,
             gain_in,
             gain_out,
@@ -516,10 +511,6 @@ impl Echos {
             small,
             lines,
             tail: 0,
-            taken: 0,
-            given: 0,
-            clips: 0,
-            ended: false,
         })
     }
 }
@@ -597,9 +588,14 @@ impl Echos {
         let Ok(taps) = copied(alloc, taps) else {
             return Err(ThawFault::Memory);
         };
+        let counters = Counters {
+            taken,
+            given,
+            clips,
+            ended: ended == 1,
+        };
         Ok(Echos {
-            pending,
-            pending_clips,
+            core: StageCore::restored(pending, pending_clips, counters),
             channels,
             gain_in,
             gain_out,
@@ -607,10 +603,6 @@ impl Echos {
             small,
             lines,
             tail,
-            taken,
-            given,
-            clips,
-            ended: ended == 1,
         })
     }
 }
@@ -637,23 +629,17 @@ impl Stage for Echos {
             gains,
             frame,
         );
-        self.pending = Some(out);
-        self.pending_clips = clips;
-        self.taken += 1;
+        self.core.offer(out, clips);
     }
 
     fn end(&mut self) {
         self.tail = total_delay(&self.taps);
-        self.ended = true;
+        self.core.end();
     }
 
     fn give(&mut self) -> Option<Frame> {
-        if let Some(frame) = self.pending {
-            self.pending = None;
-            self.given += 1;
-            self.clips += self.pending_clips;
-            self.pending_clips = 0;
-            return Some(frame);
+        if self.core.is_pending() {
+            return self.core.give();
         }
         if self.tail == 0 {
             return None;
@@ -669,23 +655,17 @@ impl Stage for Echos {
             silent_frame,
         );
         self.tail -= 1;
-        self.given += 1;
-        self.clips += clips;
+        self.core.give_made(clips);
         Some(out)
     }
 
     fn is_dry(&self) -> bool {
-        self.pending.is_none() && self.tail == 0
+        !self.core.is_pending() && self.tail == 0
     }
 
     #[inline(always)]
     fn counter_values(&self) -> Counters {
-        Counters {
-            taken: self.taken,
-            given: self.given,
-            clips: self.clips,
-            ended: self.ended,
-        }
+        self.core.counter_values()
     }
 
     fn is_spent(&self) -> bool {
@@ -693,7 +673,7 @@ impl Stage for Echos {
     }
 
     fn held(&self) -> u64 {
-        held_in(&self.lines) + u64::from(self.pending.is_some())
+        held_in(&self.lines) + u64::from(self.core.is_pending())
     }
 
     fn hold(&self) -> u64 {
@@ -711,8 +691,8 @@ impl Stage for Echos {
     fn state_counters(&self) -> [u64; 3] {
         [
             self.tail,
-            u64::from(self.pending.is_some()),
-            self.pending_clips,
+            u64::from(self.core.is_pending()),
+            self.core.pending_clips(),
         ]
     }
 
@@ -720,13 +700,13 @@ impl Stage for Echos {
         if let Some(frame) = stored_in(&self.lines, j) {
             return frame;
         }
-        stored_pending(self.pending, 0)
+        stored_pending(self.core.pending(), 0)
     }
 }
 
 impl Feeds for Echos {
     fn feed(&mut self, input: &[i32], output: &mut [i32]) -> Passed {
-        if self.pending.is_some() || self.ended {
+        if self.core.is_pending() || self.core.is_ended() {
             return feed_by_frames(self, input, output);
         }
         let Some(small) = &self.small else {
@@ -735,9 +715,8 @@ impl Feeds for Echos {
         let channels = self.channels;
         let count = (input.len() / channels).min(output.len() / channels);
         let lines = &mut self.lines;
-        self.clips += echo_many(lines, &self.taps, small, channels, input, output, count);
-        self.taken += count as u64;
-        self.given += count as u64;
+        let clipped = echo_many(lines, &self.taps, small, channels, input, output, count);
+        self.core.pass(count, clipped);
         Passed {
             taken: count,
             given: count,
@@ -754,9 +733,7 @@ impl Feeds for Echos {
             gains,
             samples,
         );
-        self.clips += clips;
-        self.taken += 1;
-        self.given += 1;
+        self.core.pass(1, clips);
         Passing::Through
     }
 
@@ -771,10 +748,7 @@ impl Feeds for Echos {
             samples,
             count,
         );
-        let passed = count as u64;
-        self.clips += clips;
-        self.taken += passed;
-        self.given += passed;
+        self.core.pass(count, clips);
     }
 
     fn ahead(&self) -> u64 {

@@ -4,12 +4,13 @@ ghost use Rattle.std.specs.Prelude.{◌≡◌, ◌↔◌, ◌+◌, true, ◌<◌
 ghost use Rattle.fx_frame_line.specs.Line.{pushed, pushed_all};
 ghost use Rattle.fx_frame_base.specs.Lists.{pieces};
 ghost use Rattle.fx_frame_base.specs.Stage.{Freezes, Gave, IsNew, Restores};
-ghost use Rattle.fx_frame.specs.Tapped.{AreTapCounts, IsNear, IsTapState, MakesBlock, TapState, Taps, by_name, clips_in_block, tap_acts};
+ghost use Rattle.fx_frame.specs.Tapped.{AreTapCounts, IsNear, IsTapState, MakesBlock, TapState, Taps, by_name, tap_acts};
 ghost use Rattle.fx_tap_delays.specs.Tapping.{CountsClips, IsLineFor, history_after};
 
 use fx_frame::frozen::{stored_in, thawed_line_and_pending};
 use fx_frame::groups::{SAMPLES_OF_GROUP, frames_of_group};
 use fx_frame::{Counters, Feeds, Frame, Line, Passed, Passing, Stage, ThawFault, WideFrame};
+use fx_frame_base::StageCore;
 use fx_frame_base::feed::{copy_samples, feed_by_frames, frame_at};
 use fx_frame_base::stage::MAX_TAKEN;
 use fx_tap_sums::inner::sample_or_silence;
@@ -58,16 +59,13 @@ pub trait TapsMany: Tapping {
     /// Makes `count` frames from those at the front of the input, which come after those of the line, at the front of the
     /// output, and counts their clips. They go through the line.
     fn tap_many(&self, line: &mut Line, input: &[i32], output: &mut [i32], count: usize) -> u64
-        requires channels { line.old.channels ≡ Self.taps.channels self.now }
-        requires capacity { line.old.capacity ≡ Self.taps.reach self.now }
+        requires line { IsLineFor Self.taps self.now line.old }
         requires bound { count ≤ 2 ^ 56 }
         requires input { count * Self.taps.channels self.now ≤ length input.now }
         requires output { count * Self.taps.channels self.now ≤ length output.old }
         ensures frames { MakesBlock Self.taps self.now line.old.items count input.now output.new }
         ensures rest_unchanged { let n = count * Self.taps.channels self.now in drop n output.new ≡ drop n output.old }
-        ensures clips { result ≡ clips_in_block Self.taps self.now line.old.items count input.now }
-        ensures bound { result ≤ count * Self.taps.max_clips self.now }
-        ensures small { result ≤ 16 * count }
+        ensures clips { CountsClips Self.taps self.now line.old.items count input.now result }
         ensures line { line.new.items ≡ pushed_all line.old (pieces (Self.taps.channels self.now) count input.now) }
         ensures line_capacity { line.new.capacity ≡ line.old.capacity }
         ensures line_channels { line.new.channels ≡ line.old.channels }
@@ -79,8 +77,7 @@ pub trait TapsMany: Tapping {
     /// counts how many were clipped. The frame that came goes into the line.
     #[inline(always)]
     fn tap_over(&self, line: &mut Line, samples: &mut [i32]) -> u64
-        requires channels { line.old.channels ≡ Self.taps.channels self.now }
-        requires capacity { line.old.capacity ≡ Self.taps.reach self.now }
+        requires line { IsLineFor Self.taps self.now line.old }
         requires frame { length samples.old ≡ Self.taps.channels self.now }
         requires bound { length samples.old ≤ 16 }
         ensures frame { samples.new ≡ (Self.taps.made self.now (history_after line.old.items samples.old)).samples }
@@ -96,15 +93,12 @@ pub trait TapsMany: Tapping {
     /// Makes `count` frames in place from those of a group, which come after those of the line, and counts their clips.
     /// They go through the line.
     fn tap_frames(&self, line: &mut Line, samples: &mut [i32], count: usize) -> u64
-        requires channels { line.old.channels ≡ Self.taps.channels self.now }
-        requires capacity { line.old.capacity ≡ Self.taps.reach self.now }
+        requires line { IsLineFor Self.taps self.now line.old }
         requires bound { count ≤ 2 ^ 56 }
         requires group { length samples.old ≤ 64 }
         requires samples { length samples.old ≡ count * Self.taps.channels self.now }
         ensures frames { MakesBlock Self.taps self.now line.old.items count samples.old samples.new }
-        ensures clips { result ≡ clips_in_block Self.taps self.now line.old.items count samples.old }
-        ensures bound { result ≤ count * Self.taps.max_clips self.now }
-        ensures small { result ≤ 16 * count }
+        ensures clips { CountsClips Self.taps self.now line.old.items count samples.old result }
         ensures line { line.new.items ≡ pushed_all line.old (pieces (Self.taps.channels self.now) count samples.old) }
         ensures line_capacity { line.new.capacity ≡ line.old.capacity }
         ensures line_channels { line.new.channels ≡ line.old.channels }
@@ -268,14 +262,11 @@ pub(crate) fn tap_over_by_frames<T: Tapping>(
 /// Makes `count` frames in the places of those that come after those of the line, a group at a time, and counts their clips.
 /// They go through the line.
 fn tap_groups<T: TapsMany>(tapping: &T, line: &mut Line, samples: &mut [i32], count: usize) -> u64
-    requires channels { line.old.channels ≡ T.taps.channels tapping.now }
-    requires capacity { line.old.capacity ≡ T.taps.reach tapping.now }
+    requires line { IsLineFor T.taps tapping.now line.old }
     requires bound { count ≤ 2 ^ 56 }
     requires samples { length samples.old ≡ count * T.taps.channels tapping.now }
     ensures frames { MakesBlock T.taps tapping.now line.old.items count samples.old samples.new }
-    ensures clips { result ≡ clips_in_block T.taps tapping.now line.old.items count samples.old }
-    ensures bound { result ≤ count * T.taps.max_clips tapping.now }
-    ensures small { result ≤ 16 * count }
+    ensures clips { CountsClips T.taps tapping.now line.old.items count samples.old result }
     ensures line { line.new.items ≡ pushed_all line.old (pieces (T.taps.channels tapping.now) count samples.old) }
     ensures line_capacity { line.new.capacity ≡ line.old.capacity }
     ensures line_channels { line.new.channels ≡ line.old.channels }
@@ -342,14 +333,9 @@ fn are_counts(reach: usize, maximum: u64, stored: usize, numbers: &[u64; 8]) -> 
 /// reach, and takes up to `2^56` frames.
 #[derive(Drop)]
 pub struct Tapped<T: Tapping + Drop> {
-    pending: Option<Frame>,
-    pending_clips: u64,
-    taken: u64,
-    given: u64,
-    clips: u64,
-    ended: bool,
-    tail: usize,
+    core: StageCore,
     line: Line,
+    tail: usize,
     arguments: T,
 }
 
@@ -358,9 +344,9 @@ impl<T: Tapping + Drop> Model for Tapped<T> {
 
     ghost Value = { TapState T };
 
-    ghost view = { λ s. record { arguments = s.arguments; line = s.line; pending = s.pending; pending_clips = s.pending_clips; tail = s.tail; taken = s.taken; given = s.given; clips = s.clips; ended = s.ended } };
+    ghost view = { λ s. record { core = s.core; line = s.line; tail = s.tail; arguments = s.arguments } };
 
-    ghost invariant = { λ s. IsTapState T.taps (record { arguments = s.arguments; line = s.line; pending = s.pending; pending_clips = s.pending_clips; tail = s.tail; taken = s.taken; given = s.given; clips = s.clips; ended = s.ended }) };
+    ghost invariant = { λ s. IsTapState T.taps (record { core = s.core; line = s.line; tail = s.tail; arguments = s.arguments }) };
 }
 
 impl<T: Tapping + Drop> Tapped<T> {
@@ -374,14 +360,9 @@ impl<T: Tapping + Drop> Tapped<T> {
     {
         let line = Line::new(alloc, arguments.channels(), reach)?;
         Ok(Tapped {
-            pending: None,
-            pending_clips: 0,
-            taken: 0,
-            given: 0,
-            clips: 0,
-            ended: false,
-            tail: 0,
+            core: StageCore::new(),
             line,
+            tail: 0,
             arguments,
         })
     }
@@ -427,15 +408,16 @@ impl<T: Tapping + Drop> Tapped<T> {
             Ok(stored) => stored,
             Err(fault) => return Err(fault),
         };
-        Ok(Tapped {
-            pending,
-            pending_clips,
+        let counters = Counters {
             taken,
             given,
             clips,
             ended: ended == 1,
-            tail: tail as usize,
+        };
+        Ok(Tapped {
+            core: StageCore::restored(pending, pending_clips, counters),
             line,
+            tail: tail as usize,
             arguments,
         })
     }
@@ -443,7 +425,7 @@ impl<T: Tapping + Drop> Tapped<T> {
     /// Gives a frame that is made of silence, which comes after those of the line.
     #[inline(never)]
     fn give_of_tail(&mut self) -> Frame
-        requires pending { self.old.pending ≡ None }
+        requires pending { self.old.core.pending ≡ None }
         requires tail { 0 < self.old.tail }
         ensures { Gave (tap_acts T.taps) self.old self.new result }
     {
@@ -452,8 +434,7 @@ impl<T: Tapping + Drop> Tapped<T> {
         self.line.push(silent_frame);
         let _held = self.line.len();
         self.tail -= 1;
-        self.given += 1;
-        self.clips += clips;
+        self.core.give_made(clips);
         made
     }
 }
@@ -474,42 +455,28 @@ impl<T: Tapping + Drop> Stage for Tapped<T> {
         let _channels = made.channels();
         self.line.push(frame);
         let _held = self.line.len();
-        self.pending = Some(made);
-        self.pending_clips = clips;
-        self.taken += 1;
+        self.core.offer(made, clips);
     }
 
     fn end(&mut self) {
         self.tail = self.line.capacity();
-        self.ended = true;
+        self.core.end();
     }
 
     fn give(&mut self) -> Option<Frame> {
-        let Some(frame) = self.pending else {
-            if self.tail == 0 {
-                return None;
-            }
-            return Some(self.give_of_tail());
-        };
-        self.pending = None;
-        self.given += 1;
-        self.clips += self.pending_clips;
-        self.pending_clips = 0;
-        Some(frame)
+        if self.core.is_pending() || self.tail == 0 {
+            return self.core.give();
+        }
+        Some(self.give_of_tail())
     }
 
     fn is_dry(&self) -> bool {
-        self.pending.is_none() && self.tail == 0
+        !self.core.is_pending() && self.tail == 0
     }
 
     #[inline(always)]
     fn counter_values(&self) -> Counters {
-        Counters {
-            taken: self.taken,
-            given: self.given,
-            clips: self.clips,
-            ended: self.ended,
-        }
+        self.core.counter_values()
     }
 
     fn is_spent(&self) -> bool {
@@ -517,7 +484,7 @@ impl<T: Tapping + Drop> Stage for Tapped<T> {
     }
 
     fn held(&self) -> u64 {
-        self.line.len() as u64 + u64::from(self.pending.is_some())
+        self.line.len() as u64 + u64::from(self.core.is_pending())
     }
 
     fn hold(&self) -> u64 {
@@ -535,29 +502,28 @@ impl<T: Tapping + Drop> Stage for Tapped<T> {
     fn state_counters(&self) -> [u64; 3] {
         [
             self.tail as u64,
-            u64::from(self.pending.is_some()),
-            self.pending_clips,
+            u64::from(self.core.is_pending()),
+            self.core.pending_clips(),
         ]
     }
 
     fn stored(&self, j: usize) -> WideFrame {
-        stored_in(&self.line, self.pending, j)
+        stored_in(&self.line, self.core.pending(), j)
     }
 }
 
 impl<T: TapsMany + Drop> Feeds for Tapped<T> {
     fn feed(&mut self, input: &[i32], output: &mut [i32]) -> Passed {
-        if self.pending.is_some() || self.ended {
+        if self.core.is_pending() || self.core.is_ended() {
             return feed_by_frames(self, input, output);
         }
         let channels = self.arguments.channels();
         let count = (input.len() / channels).min(output.len() / channels);
-        self.clips += self
+        let clips = self
             .arguments
             .tap_many(&mut self.line, input, output, count);
         let _held = self.line.len();
-        self.taken += count as u64;
-        self.given += count as u64;
+        self.core.pass(count, clips);
         Passed {
             taken: count,
             given: count,
@@ -567,19 +533,14 @@ impl<T: TapsMany + Drop> Feeds for Tapped<T> {
     fn pass_samples(&mut self, samples: &mut [i32]) -> Passing {
         let clips = self.arguments.tap_over(&mut self.line, samples);
         let _held = self.line.len();
-        self.clips += clips;
-        self.taken += 1;
-        self.given += 1;
+        self.core.pass(1, clips);
         Passing::Through
     }
 
     fn pass_frames(&mut self, count: usize, samples: &mut [i32]) {
         let clips = tap_groups(&self.arguments, &mut self.line, samples, count);
         let _held = self.line.len();
-        let passed = count as u64;
-        self.clips += clips;
-        self.taken += passed;
-        self.given += passed;
+        self.core.pass(count, clips);
     }
 
     fn ahead(&self) -> u64 {

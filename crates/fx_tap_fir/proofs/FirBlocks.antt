@@ -12,14 +12,16 @@ use Rattle.fx_frame_line.specs.Line.{Frames, IsLine, channel_of}
 use Rattle.fx_frame_base.specs.Lists.{pieces, tabulate}
 use Rattle.fx_frame_base.specs.Pipeline.{EachThrough}
 use Rattle.fx_frame_base.specs.Stage.{Given, IsDry}
-use Rattle.fx_frame_base.proofs.FedLaws.{Fed-then, total-append}
+use Rattle.fx_frame_base.specs.StageCore.{after_passing}
+use Rattle.fx_frame_base.proofs.Cores.{IsCore-passed}
+use Rattle.fx_frame_base.proofs.FedLaws.{Fed-then}
 use Rattle.fx_frame_base.proofs.Puts.{pieces-split, pieces-same}
 use Rattle.fx_frame_base.proofs.Pieces.{length-pieces, pieces-front}
 use Rattle.fx_tap_fir.specs.Fir.{FirArguments, centre, filtered_frame, filtered_sample}
 use Rattle.fx_tap_fir.specs.FirState.{FirState, IsFir, fir_acts, fir_taps}
 use Rattle.fx_tap_sums.specs.Products.{sum_of_products}
 use Rattle.fx_frame_base.specs.Rounded.{clips_rounded, samples_of}
-use Rattle.fx_frame.specs.Tapped.{IsNear, Taps, given_after, clips_after, frames_after, last_of}
+use Rattle.fx_frame.specs.Tapped.{IsNear, given_after, clips_after, frames_after, last_of}
 use Rattle.fx_frame.specs.History.{sample_before}
 use Rattle.fx_tap_fir.proofs.FirLaws.{rest_unchanged-due}
 use Rattle.fx_frame.proofs.Tables.{map-tabulate, samples_of-tabulate, all_clips, pieces-table}
@@ -76,30 +78,6 @@ block-clips r items xs n clips many counted =
     counted ∙ total-same clips_rounded (λ (g : Given). g.clips) _ (λ m. fir_taps.made r (sample_before (items ++ xs) m)) 0 (length items) n (λ k l. rw zero-add refl)
     ∙ ap (λ k. total (λ (g : Given). g.clips) (tabulate (λ m. fir_taps.made r (sample_before (items ++ xs) m)) (length items) k)) (sym many)
 
--- ---- one piece of frames behind the other
-
-pub rest_unchanged-append : {M : Type 0} (taps : Taps M) (near : IsNear taps) (m : M) (c : ℕ) (items xs ys : List Samples) → length items ≤ c → taps.reach m ≤ c
-    → given_after taps m items (xs ++ ys) ≡ given_after taps m items xs ++ given_after taps m (last_of c (items ++ xs)) ys
-rest_unchanged-append taps near m c items [] ys held long = rw (last-whole c items held) refl
-rest_unchanged-append taps near m c items (x ∷ xs) ys held long =
-    let next : List Samples = last_of c (items ++ x ∷ []) in
-    let free : length next ≤ c = let n = length-last c (items ++ x ∷ []) in omega arith in
-    let same : last_of c (next ++ xs) ≡ last_of c (items ++ x ∷ xs) = last-first c items xs x in
-    let more = rest_unchanged-append taps near m c next xs ys free long in
-    rest_unchanged-step taps near m items (xs ++ ys) x c held long
-    ∙ ap (λ gs. taps.made m (sample_before (items ++ x ∷ []) (length items)) ∷ gs) (rw same at more)
-    ∙ ap (λ gs. gs ++ given_after taps m (last_of c (items ++ x ∷ xs)) ys) (sym (rest_unchanged-step taps near m items xs x c held long))
-
-pub frames-append : {M : Type 0} (taps : Taps M) (near : IsNear taps) (m : M) (c : ℕ) (items xs ys : List Samples) → length items ≤ c → taps.reach m ≤ c
-    → frames_after taps m items (xs ++ ys) ≡ frames_after taps m items xs ++ frames_after taps m (last_of c (items ++ xs)) ys
-frames-append taps near m c items xs ys held long =
-    ap (map (λ (g : Given). g.samples)) (rest_unchanged-append taps near m c items xs ys held long) ∙ map-append (λ (g : Given). g.samples) (given_after taps m items xs) (given_after taps m (last_of c (items ++ xs)) ys)
-
-pub clips-append : {M : Type 0} (taps : Taps M) (near : IsNear taps) (m : M) (c : ℕ) (items xs ys : List Samples) → length items ≤ c → taps.reach m ≤ c
-    → clips_after taps m items (xs ++ ys) ≡ clips_after taps m items xs + clips_after taps m (last_of c (items ++ xs)) ys
-clips-append taps near m c items xs ys held long =
-    ap (total (λ (g : Given). g.clips)) (rest_unchanged-append taps near m c items xs ys held long) ∙ total-append (λ (g : Given). g.clips) (given_after taps m items xs) (given_after taps m (last_of c (items ++ xs)) ys)
-
 -- what was written behind the frames so far
 pub pieces-joined : (size n m : ℕ) (out made rest new : List ℤ) → n * size ≤ length out → length made ≡ m * size → new ≡ take (n * size) out ++ (made ++ rest) → pieces size (n + m) new ≡ pieces size n out ++ pieces size m made
 pieces-joined size n m out made rest new long sides written =
@@ -135,18 +113,17 @@ given-along number count late held capacity zero counted lined due = omega (arit
 given-along number count late held capacity (suc n) counted lined due = let enough = due (omega arith) in omega (arith, counted, lined, enough)
 
 -- the state after a block of frames went by
-pub IsFir-block : (s : FirState) (line : Frames ℤ) (n clips : ℕ) (xs : List Samples) → IsFir s → s.pending ≡ None → s.ended ≡ false → s.taken + n ≤ 2 ^ 56 → length xs ≡ n → (1 ≤ n → centre (length s.backwards) ≤ length s.line.items)
+pub IsFir-block : (s : FirState) (line : Frames ℤ) (n clips : ℕ) (xs : List Samples) → IsFir s → s.core.pending ≡ None → s.core.ended ≡ false → s.core.taken + n ≤ 2 ^ 56 → length xs ≡ n → (1 ≤ n → centre (length s.backwards) ≤ length s.line.items)
     → IsLine w32 line → line.items ≡ last_of s.line.capacity (s.line.items ++ xs) → line.capacity ≡ s.line.capacity → line.channels ≡ s.line.channels → clips ≤ 16 * n
-    → IsFir (record s { line = line; taken = s.taken + n; given = s.given + n; clips = s.clips + clips })
+    → IsFir (record s { line = line; core = after_passing n clips s.core })
 IsFir-block s line n clips xs is none running bound many due lined items capacity channels little =
     let no_tail : s.tail ≡ 0 = is.not_ended running in
-    let counted : s.given + 0 + s.tail ≡ s.taken - centre (length s.backwards) = rw (none, running) at is.counted in
+    let counted : s.core.given + 0 + s.tail ≡ s.core.taken - centre (length s.backwards) = rw (none, running) at is.counted in
     let before = is.held in
     let after : length line.items ≡ min (length (s.line.items ++ xs)) s.line.capacity = ap length items ∙ length-last s.line.capacity (s.line.items ++ xs) in
     let all : length (s.line.items ++ xs) ≡ length s.line.items + n = length-append s.line.items xs ∙ ap (λ k. length s.line.items + k) many in
     let full = is.capacity in
     let tail_held = is.tail_held in
-    let clips_max = is.clips_max in
     record {
       line = lined;
       channels = channels ∙ is.channels;
@@ -154,25 +131,20 @@ IsFir-block s line n clips xs is none running bound many due lined items capacit
       count = is.count;
       small = is.small;
       held = omega (arith, before, after, all, capacity);
-      counted = rw (none, running) (omega (arith, no_tail, given-along s.given s.taken (centre (length s.backwards)) (length s.line.items) s.line.capacity n (omega (arith, counted, no_tail)) before due));
+      counted = rw (none, running) (omega (arith, no_tail, given-along s.core.given s.core.taken (centre (length s.backwards)) (length s.line.items) s.line.capacity n (omega (arith, counted, no_tail)) before due));
       tail_held = omega (arith, no_tail);
       tail_bound = is.tail_bound;
       not_ended = is.not_ended;
-      bound = bound;
-      clips_max = omega (arith, clips_max, little);
-      pending_max = is.pending_max;
-      idle = is.idle;
-      over = is.over;
-      fits = is.fits;
+      core = IsCore-passed s.channels 16 n clips s.core is.core bound (omega (arith, little));
     }
 
 module _ (channels : ℕ) (b : List ℤ) where
   abbrev pub made_with : FirArguments
   made_with = record { channels = channels; coefficients = reverse b }
 
-  -- such a stage with no frame in hand
+  -- such a stage with no pending frame
   abbrev pub ready : Frames ℤ → ℕ → ℕ → ℕ → FirState
-  ready line count number clips = record { channels = channels; backwards = b; line = line; pending = None; pending_clips = 0; tail = 0; taken = count; given = number; clips = clips; ended = false }
+  ready line count number clips = record { channels = channels; backwards = b; line = line; core = record { pending = None; pending_clips = 0; taken = count; given = number; clips = clips; ended = false }; tail = 0 }
 
   -- the line after these frames
   abbrev pub through : Frames ℤ → List Samples → Frames ℤ
@@ -183,7 +155,7 @@ module _ (channels : ℕ) (b : List ℤ) where
   made_after line x = filtered_frame made_with (line.items ++ x ∷ []) (length line.items)
 
   abbrev pub holding : Frames ℤ → ℕ → ℕ → ℕ → Samples → FirState
-  holding line count number clips x = record { channels = channels; backwards = b; line = through line (x ∷ []); pending = Some (made_after line x).samples; pending_clips = (made_after line x).clips; tail = 0; taken = count + 1; given = number; clips = clips; ended = false }
+  holding line count number clips x = record { channels = channels; backwards = b; line = through line (x ∷ []); core = record { pending = Some (made_after line x).samples; pending_clips = (made_after line x).clips; taken = count + 1; given = number; clips = clips; ended = false }; tail = 0 }
 
   made-sides : (line : Frames ℤ) (x : Samples) → length (made_after line x).samples ≡ channels
   made-sides line x = ap length (samples_of-tabulate (filtered_sample (reverse b) (line.items ++ x ∷ []) (length line.items)) 0 channels) ∙ length-tabulate _ 0 channels
@@ -283,12 +255,18 @@ module _ (channels : ℕ) (b : List ℤ) where
       ) in
       subst (λ (l : List Samples). EachThrough fir_acts (x ∷ xs) l (ready line count number clips) end) (sym frames) whole
 
+-- before the end, with no frame pending and none to be given after it, a stage is such a one
+ready-is : (s : FirState) → s.core.pending ≡ None → s.core.pending_clips ≡ 0 → s.tail ≡ 0 → s.core.ended ≡ false → s ≡ ready s.channels s.backwards s.line s.core.taken s.core.given s.core.clips
+ready-is s h k t over =
+    let whole : ◌≡◌ {A = FirState} (record { channels = s.channels; backwards = s.backwards; line = s.line; core = record { pending = s.core.pending; pending_clips = s.core.pending_clips; taken = s.core.taken; given = s.core.given; clips = s.core.clips; ended = s.core.ended }; tail = s.tail }) (ready s.channels s.backwards s.line s.core.taken s.core.given s.core.clips) = rw (h, k, t, over) refl in
+    whole
+
 -- a block of frames: the counters are added to once
-pub block-fed : (s : FirState) (line : Frames ℤ) (n clips : ℕ) (input output : List ℤ) → s.pending ≡ None → s.pending_clips ≡ 0 → s.tail ≡ 0 → s.ended ≡ false → s.given + centre (length (reverse s.backwards)) ≡ s.taken
+pub block-fed : (s : FirState) (line : Frames ℤ) (n clips : ℕ) (input output : List ℤ) → s.core.pending ≡ None → s.core.pending_clips ≡ 0 → s.tail ≡ 0 → s.core.ended ≡ false → s.core.given + centre (length (reverse s.backwards)) ≡ s.core.taken
     → s.line.capacity + 1 ≡ length (reverse s.backwards) → length s.line.items ≤ s.line.capacity → centre (length (reverse s.backwards)) ≤ length s.line.items
     → pieces s.channels n output ≡ frames_after fir_taps (made_with s.channels s.backwards) s.line.items (pieces s.channels n input) → clips ≡ clips_after fir_taps (made_with s.channels s.backwards) s.line.items (pieces s.channels n input)
     → line.items ≡ last_of s.line.capacity (s.line.items ++ pieces s.channels n input) → line.capacity ≡ s.line.capacity → line.channels ≡ s.line.channels
-    → Fed fir_acts s (pieces s.channels n input) (pieces s.channels n output) (record s { line = line; taken = s.taken + n; given = s.given + n; clips = s.clips + clips })
+    → Fed fir_acts s (pieces s.channels n input) (pieces s.channels n output) (record s { line = line; core = after_passing n clips s.core })
 block-fed s line n clips input output h k t over counted full within due made clipped items capacity channels =
     let xs : List Samples = pieces s.channels n input in
     let b : List ℤ = s.backwards in
@@ -297,25 +275,23 @@ block-fed s line n clips input output h k t over counted full within due made cl
     let same : ◌≡◌ {A = Frames ℤ} (record { items = line.items; capacity = line.capacity; channels = line.channels }) Through = rw (items, capacity, channels) refl in
     let went : line ≡ Through = same in
     let many : length xs ≡ n = length-pieces s.channels n input in
-    let fed : Fed fir_acts (Ready s.line s.taken s.given s.clips) xs (frames_after fir_taps (made_with s.channels b) s.line.items xs) (Ready Through (s.taken + length xs) (s.given + length xs) (s.clips + clips_after fir_taps (made_with s.channels b) s.line.items xs)) =
-    frames-fed s.channels b xs s.line s.taken s.given s.clips full within due counted in
-    let whole : ◌≡◌ {A = FirState} (record { channels = s.channels; backwards = s.backwards; line = s.line; pending = s.pending; pending_clips = s.pending_clips; tail = s.tail; taken = s.taken; given = s.given; clips = s.clips; ended = s.ended }) (Ready s.line s.taken s.given s.clips) = rw (h, k, t, over) refl in
-    let start : s ≡ Ready s.line s.taken s.given s.clips = whole in
-    let left : ◌≡◌ {A = FirState} (record { channels = s.channels; backwards = s.backwards; line = line; pending = s.pending; pending_clips = s.pending_clips; tail = s.tail; taken = s.taken + n; given = s.given + n; clips = s.clips + clips; ended = s.ended }) (Ready line (s.taken + n) (s.given + n) (s.clips + clips)) = rw (h, k, t, over) refl in
-    let last : ◌≡◌ {A = FirState} (record { channels = s.channels; backwards = s.backwards; line = line; pending = s.pending; pending_clips = s.pending_clips; tail = s.tail; taken = s.taken + n; given = s.given + n; clips = s.clips + clips; ended = s.ended }) (Ready Through (s.taken + length xs) (s.given + length xs) (s.clips + clips_after fir_taps (made_with s.channels b) s.line.items xs)) =
-    left ∙ ap (λ (l : Frames ℤ). Ready l (s.taken + n) (s.given + n) (s.clips + clips)) went ∙ ap (λ (j : ℕ). Ready Through (s.taken + n) (s.given + n) (s.clips + j)) clipped ∙ ap (λ (j : ℕ). Ready Through (s.taken + j) (s.given + j) (s.clips + clips_after fir_taps (made_with s.channels b) s.line.items xs)) (sym many) in
-    let new : record s { line = line; taken = s.taken + n; given = s.given + n; clips = s.clips + clips } ≡ Ready Through (s.taken + length xs) (s.given + length xs) (s.clips + clips_after fir_taps (made_with s.channels b) s.line.items xs) = last in
-    let From : FirState → Type 0 = λ u. Fed fir_acts u xs (frames_after fir_taps (made_with s.channels b) s.line.items xs) (Ready Through (s.taken + length xs) (s.given + length xs) (s.clips + clips_after fir_taps (made_with s.channels b) s.line.items xs)) in
+    let fed : Fed fir_acts (Ready s.line s.core.taken s.core.given s.core.clips) xs (frames_after fir_taps (made_with s.channels b) s.line.items xs) (Ready Through (s.core.taken + length xs) (s.core.given + length xs) (s.core.clips + clips_after fir_taps (made_with s.channels b) s.line.items xs)) =
+    frames-fed s.channels b xs s.line s.core.taken s.core.given s.core.clips full within due counted in
+    let start : s ≡ Ready s.line s.core.taken s.core.given s.core.clips = ready-is s h k t over in
+    let passed_by : FirState = record s { line = line; core = after_passing n clips s.core } in
+    let new : passed_by ≡ Ready Through (s.core.taken + length xs) (s.core.given + length xs) (s.core.clips + clips_after fir_taps (made_with s.channels b) s.line.items xs) =
+    ready-is passed_by h k t over ∙ ap (λ (l : Frames ℤ). Ready l (s.core.taken + n) (s.core.given + n) (s.core.clips + clips)) went ∙ ap (λ (j : ℕ). Ready Through (s.core.taken + n) (s.core.given + n) (s.core.clips + j)) clipped ∙ ap (λ (j : ℕ). Ready Through (s.core.taken + j) (s.core.given + j) (s.core.clips + clips_after fir_taps (made_with s.channels b) s.line.items xs)) (sym many) in
+    let From : FirState → Type 0 = λ u. Fed fir_acts u xs (frames_after fir_taps (made_with s.channels b) s.line.items xs) (Ready Through (s.core.taken + length xs) (s.core.given + length xs) (s.core.clips + clips_after fir_taps (made_with s.channels b) s.line.items xs)) in
     let To : FirState → Type 0 = λ u. Fed fir_acts s xs (frames_after fir_taps (made_with s.channels b) s.line.items xs) u in
     rw made (subst To (sym new) (subst From (sym start) fed))
 
 -- the same, each given before the next is taken
-pub block-through : (s : FirState) (line : Frames ℤ) (n clips : ℕ) (input output : List ℤ) → s.pending ≡ None → s.pending_clips ≡ 0 → s.tail ≡ 0 → s.ended ≡ false
+pub block-through : (s : FirState) (line : Frames ℤ) (n clips : ℕ) (input output : List ℤ) → s.core.pending ≡ None → s.core.pending_clips ≡ 0 → s.tail ≡ 0 → s.core.ended ≡ false
     → s.line.capacity + 1 ≡ length (reverse s.backwards) → length s.line.items ≤ s.line.capacity
-    → (1 ≤ n → (centre (length (reverse s.backwards)) ≤ length s.line.items) × (s.given + centre (length (reverse s.backwards)) ≡ s.taken))
+    → (1 ≤ n → (centre (length (reverse s.backwards)) ≤ length s.line.items) × (s.core.given + centre (length (reverse s.backwards)) ≡ s.core.taken))
     → pieces s.channels n output ≡ frames_after fir_taps (made_with s.channels s.backwards) s.line.items (pieces s.channels n input) → clips ≡ clips_after fir_taps (made_with s.channels s.backwards) s.line.items (pieces s.channels n input)
     → line.items ≡ last_of s.line.capacity (s.line.items ++ pieces s.channels n input) → line.capacity ≡ s.line.capacity → line.channels ≡ s.line.channels
-    → EachThrough fir_acts (pieces s.channels n input) (pieces s.channels n output) s (record s { line = line; taken = s.taken + n; given = s.given + n; clips = s.clips + clips })
+    → EachThrough fir_acts (pieces s.channels n input) (pieces s.channels n output) s (record s { line = line; core = after_passing n clips s.core })
 block-through s line n clips input output h k t over full within due made clipped items capacity channels =
     let xs : List Samples = pieces s.channels n input in
     let b : List ℤ = s.backwards in
@@ -325,41 +301,37 @@ block-through s line n clips input output h k t over full within due made clippe
     let went : line ≡ Next = same in
     let many : length xs ≡ n = length-pieces s.channels n input in
     let made_frames : List Samples = frames_after fir_taps (made_with s.channels b) s.line.items xs in
-    let all : ℕ = s.clips + clips_after fir_taps (made_with s.channels b) s.line.items xs in
-    let passed : EachThrough fir_acts xs made_frames (Ready s.line s.taken s.given s.clips) (Ready Next (s.taken + length xs) (s.given + length xs) all) =
-    frames-through s.channels b xs s.line s.taken s.given s.clips full within (λ some. due (omega (arith, some, many))) in
-    let whole : ◌≡◌ {A = FirState} (record { channels = s.channels; backwards = s.backwards; line = s.line; pending = s.pending; pending_clips = s.pending_clips; tail = s.tail; taken = s.taken; given = s.given; clips = s.clips; ended = s.ended }) (Ready s.line s.taken s.given s.clips) = rw (h, k, t, over) refl in
-    let start : s ≡ Ready s.line s.taken s.given s.clips = whole in
-    let left : ◌≡◌ {A = FirState} (record { channels = s.channels; backwards = s.backwards; line = line; pending = s.pending; pending_clips = s.pending_clips; tail = s.tail; taken = s.taken + n; given = s.given + n; clips = s.clips + clips; ended = s.ended }) (Ready line (s.taken + n) (s.given + n) (s.clips + clips)) = rw (h, k, t, over) refl in
-    let last : ◌≡◌ {A = FirState} (record { channels = s.channels; backwards = s.backwards; line = line; pending = s.pending; pending_clips = s.pending_clips; tail = s.tail; taken = s.taken + n; given = s.given + n; clips = s.clips + clips; ended = s.ended }) (Ready Next (s.taken + length xs) (s.given + length xs) all) =
-    left ∙ ap (λ (l : Frames ℤ). Ready l (s.taken + n) (s.given + n) (s.clips + clips)) went ∙ ap (λ (j : ℕ). Ready Next (s.taken + j) (s.given + j) (s.clips + clips)) (sym many)
-    ∙ ap (λ (j : ℕ). Ready Next (s.taken + length xs) (s.given + length xs) (s.clips + j)) clipped in
-    let new : record s { line = line; taken = s.taken + n; given = s.given + n; clips = s.clips + clips } ≡ Ready Next (s.taken + length xs) (s.given + length xs) all = last in
-    let From : FirState → Type 0 = λ u. EachThrough fir_acts xs made_frames u (Ready Next (s.taken + length xs) (s.given + length xs) all) in
+    let all : ℕ = s.core.clips + clips_after fir_taps (made_with s.channels b) s.line.items xs in
+    let passed : EachThrough fir_acts xs made_frames (Ready s.line s.core.taken s.core.given s.core.clips) (Ready Next (s.core.taken + length xs) (s.core.given + length xs) all) =
+    frames-through s.channels b xs s.line s.core.taken s.core.given s.core.clips full within (λ some. due (omega (arith, some, many))) in
+    let start : s ≡ Ready s.line s.core.taken s.core.given s.core.clips = ready-is s h k t over in
+    let passed_by : FirState = record s { line = line; core = after_passing n clips s.core } in
+    let new : passed_by ≡ Ready Next (s.core.taken + length xs) (s.core.given + length xs) all =
+    ready-is passed_by h k t over ∙ ap (λ (l : Frames ℤ). Ready l (s.core.taken + n) (s.core.given + n) (s.core.clips + clips)) went ∙ ap (λ (j : ℕ). Ready Next (s.core.taken + j) (s.core.given + j) (s.core.clips + clips)) (sym many)
+    ∙ ap (λ (j : ℕ). Ready Next (s.core.taken + length xs) (s.core.given + length xs) (s.core.clips + j)) clipped in
+    let From : FirState → Type 0 = λ u. EachThrough fir_acts xs made_frames u (Ready Next (s.core.taken + length xs) (s.core.given + length xs) all) in
     let To : FirState → Type 0 = λ u. EachThrough fir_acts xs made_frames s u in
     rw made (subst To (sym new) (subst From (sym start) passed))
 
 -- one frame, passed on in its place
-pub frame-passed : (s : FirState) (line : Frames ℤ) (x y : Samples) (clips : ℕ) → s.pending ≡ None → s.pending_clips ≡ 0 → s.tail ≡ 0 → s.ended ≡ false → s.given + centre (length (reverse s.backwards)) ≡ s.taken
+pub frame-passed : (s : FirState) (line : Frames ℤ) (x y : Samples) (clips : ℕ) → s.core.pending ≡ None → s.core.pending_clips ≡ 0 → s.tail ≡ 0 → s.core.ended ≡ false → s.core.given + centre (length (reverse s.backwards)) ≡ s.core.taken
     → s.line.capacity + 1 ≡ length (reverse s.backwards) → length s.line.items ≤ s.line.capacity → centre (length (reverse s.backwards)) ≤ length s.line.items
     → y ≡ (made_after s.channels s.backwards s.line x).samples → clips ≡ (made_after s.channels s.backwards s.line x).clips
     → line.items ≡ last_of s.line.capacity (s.line.items ++ x ∷ []) → line.capacity ≡ s.line.capacity → line.channels ≡ s.line.channels
-    → PassedOn fir_acts Through s (record s { line = line; taken = s.taken + 1; given = s.given + 1; clips = s.clips + clips }) x y
+    → PassedOn fir_acts Through s (record s { line = line; core = after_passing 1 clips s.core }) x y
 frame-passed s line x y clips h k t over counted full within due made clipped items capacity channels =
     let b : List ℤ = s.backwards in
     let Ready : Frames ℤ → ℕ → ℕ → ℕ → FirState = ready s.channels b in
     let Next : Frames ℤ = record { items = last_of s.line.capacity (s.line.items ++ x ∷ []); capacity = s.line.capacity; channels = s.line.channels } in
     let same : ◌≡◌ {A = Frames ℤ} (record { items = line.items; capacity = line.capacity; channels = line.channels }) Next = rw (items, capacity, channels) refl in
     let went : line ≡ Next = same in
-    let all : ℕ = s.clips + (made_after s.channels b s.line x).clips in
-    let passed : PassedOn fir_acts Through (Ready s.line s.taken s.given s.clips) (Ready Next (s.taken + 1) (s.given + 1) all) x (made_after s.channels b s.line x).samples =
-    one-passed s.channels b s.line s.taken s.given s.clips x full within due counted in
-    let whole : ◌≡◌ {A = FirState} (record { channels = s.channels; backwards = s.backwards; line = s.line; pending = s.pending; pending_clips = s.pending_clips; tail = s.tail; taken = s.taken; given = s.given; clips = s.clips; ended = s.ended }) (Ready s.line s.taken s.given s.clips) = rw (h, k, t, over) refl in
-    let start : s ≡ Ready s.line s.taken s.given s.clips = whole in
-    let left : ◌≡◌ {A = FirState} (record { channels = s.channels; backwards = s.backwards; line = line; pending = s.pending; pending_clips = s.pending_clips; tail = s.tail; taken = s.taken + 1; given = s.given + 1; clips = s.clips + clips; ended = s.ended }) (Ready line (s.taken + 1) (s.given + 1) (s.clips + clips)) = rw (h, k, t, over) refl in
-    let last : ◌≡◌ {A = FirState} (record { channels = s.channels; backwards = s.backwards; line = line; pending = s.pending; pending_clips = s.pending_clips; tail = s.tail; taken = s.taken + 1; given = s.given + 1; clips = s.clips + clips; ended = s.ended }) (Ready Next (s.taken + 1) (s.given + 1) all) =
-    left ∙ ap (λ (l : Frames ℤ). Ready l (s.taken + 1) (s.given + 1) (s.clips + clips)) went ∙ ap (λ (j : ℕ). Ready Next (s.taken + 1) (s.given + 1) (s.clips + j)) clipped in
-    let new : record s { line = line; taken = s.taken + 1; given = s.given + 1; clips = s.clips + clips } ≡ Ready Next (s.taken + 1) (s.given + 1) all = last in
-    let From : FirState → Type 0 = λ u. PassedOn fir_acts Through u (Ready Next (s.taken + 1) (s.given + 1) all) x (made_after s.channels b s.line x).samples in
+    let all : ℕ = s.core.clips + (made_after s.channels b s.line x).clips in
+    let passed : PassedOn fir_acts Through (Ready s.line s.core.taken s.core.given s.core.clips) (Ready Next (s.core.taken + 1) (s.core.given + 1) all) x (made_after s.channels b s.line x).samples =
+    one-passed s.channels b s.line s.core.taken s.core.given s.core.clips x full within due counted in
+    let start : s ≡ Ready s.line s.core.taken s.core.given s.core.clips = ready-is s h k t over in
+    let passed_by : FirState = record s { line = line; core = after_passing 1 clips s.core } in
+    let new : passed_by ≡ Ready Next (s.core.taken + 1) (s.core.given + 1) all =
+    ready-is passed_by h k t over ∙ ap (λ (l : Frames ℤ). Ready l (s.core.taken + 1) (s.core.given + 1) (s.core.clips + clips)) went ∙ ap (λ (j : ℕ). Ready Next (s.core.taken + 1) (s.core.given + 1) (s.core.clips + j)) clipped in
+    let From : FirState → Type 0 = λ u. PassedOn fir_acts Through u (Ready Next (s.core.taken + 1) (s.core.given + 1) all) x (made_after s.channels b s.line x).samples in
     let To : FirState → Type 0 = λ u. PassedOn fir_acts Through s u x (made_after s.channels b s.line x).samples in
     rw made (subst To (sym new) (subst From (sym start) passed))

@@ -1,11 +1,12 @@
 -- How a `Fir` behaves.
-use Rattle.std.proofs.Common.{ℕ, ℤ, pos, zero, suc, ◌+◌, ◌-◌, ◌<◌, ◌≤◌, ◌≡◌, Bool, true, false, cond, min, List, [], ◌∷◌, ◌++◌, length, drop, get_or, set, reverse, refl, sym, ap, ◌∙◌, arith, zero-add, append_assoc, append-nil, slice_get, slice_index_or, Option, Some, None, nat_eq, option_to_list}
+use Rattle.std.proofs.Common.{ℕ, ℤ, pos, zero, suc, ◌+◌, ◌-◌, ◌<◌, ◌≤◌, ◌≡◌, Bool, true, false, cond, min, List, [], ◌∷◌, ◌++◌, length, drop, get_or, set, reverse, refl, sym, ap, ◌∙◌, arith, zero-add, append_assoc, append-nil, slice_get, slice_index_or, Option, Some, None, nat_eq}
 use Rattle.std.proofs.lemmas.Bool.{true_from_ne_false}
 use Rattle.std.proofs.Math.Seq.{set-append_seam}
 use Rattle.std.proofs.lemmas.List.{length-append, length-drop, length-map, length-reverse, reverse-reverse, map-append, drop-append-le}
 use Rattle.fx_frame_base.specs.Frame.{Samples}
 use Rattle.fx_frame_line.specs.Line.{Frames, pushed, channel_of}
 use Rattle.fx_frame.specs.Frozen.{IsStored}
+use Rattle.fx_frame_base.specs.StageCore.{pending_frames}
 use Rattle.fx_frame_base.specs.Stage.{Gave, Took, Freezes, numbers_of}
 use Rattle.fx_frame.specs.Tapped.{by_name}
 use Rattle.fx_frame.specs.History.{sample_before}
@@ -115,13 +116,13 @@ count-back s is = is.capacity ∙ sym (length-reverse s.backwards)
 
 -- the state after a frame came and one was due
 abbrev pub taken_fir : FirState → Frames ℤ → Samples → ℕ → FirState
-taken_fir s line out clips = record s { line = line; pending = Some out; pending_clips = clips; taken = s.taken + 1 }
+taken_fir s line out clips = record s { line = line; core = record s.core { pending = Some out; pending_clips = clips; taken = s.core.taken + 1 } }
 
-pub Took-due : (s : FirState) (line : Frames ℤ) (frame out : Samples) (clips : ℕ) → IsFir s → fir_acts.dry s ≡ true → s.ended ≡ false → centre (length s.backwards) ≤ length s.line.items
+pub Took-due : (s : FirState) (line : Frames ℤ) (frame out : Samples) (clips : ℕ) → IsFir s → fir_acts.dry s ≡ true → s.core.ended ≡ false → centre (length s.backwards) ≤ length s.line.items
     → out ≡ (filtered_frame (arguments_of s) (s.line.items ++ frame ∷ []) (length s.line.items)).samples → clips ≡ (filtered_frame (arguments_of s) (s.line.items ++ frame ∷ []) (length s.line.items)).clips
     → line.items ≡ pushed s.line frame → Took fir_acts s (taken_fir s line out clips) frame
 Took-due s line frame out clips is dry running due out_is clips_are items =
-    let none = dry-pending s.pending s.tail dry in
+    let none = dry-pending s.core.pending s.tail dry in
     let same = length-reverse s.backwards in
     let enough : centre (length (reverse s.backwards)) ≤ length s.line.items = rw same due in
     record {
@@ -130,24 +131,24 @@ Took-due s line frame out clips is dry running due out_is clips_are items =
       recipe_stays = refl;
     }
 
-ended-tail : (s : FirState) → IsFir s → 0 < s.tail → s.ended ≡ true
-ended-tail s is some = true_from_ne_false s.ended (λ e. let k = is.not_ended e in absurd (omega arith))
+ended-tail : (s : FirState) → IsFir s → 0 < s.tail → s.core.ended ≡ true
+ended-tail s is some = true_from_ne_false s.core.ended (λ e. let k = is.not_ended e in absurd (omega arith))
 
 -- the state after one of the last frames was given
 abbrev pub drained_fir : FirState → ℕ → FirState
-drained_fir s clips = record s { tail = s.tail - 1; given = s.given + 1; clips = s.clips + clips }
+drained_fir s clips = record s { tail = s.tail - 1; core = record s.core { given = s.core.given + 1; clips = s.core.clips + clips } }
 
-pub Gave-last : (s : FirState) (out : Samples) (clips : ℕ) → IsFir s → s.pending ≡ None → 0 < s.tail
+pub Gave-last : (s : FirState) (out : Samples) (clips : ℕ) → IsFir s → s.core.pending ≡ None → 0 < s.tail
     → out ≡ (filtered_frame (arguments_of s) (s.line.items ++ []) (length s.line.items - s.tail + centre (length s.backwards))).samples
     → clips ≡ (filtered_frame (arguments_of s) (s.line.items ++ []) (length s.line.items - s.tail + centre (length s.backwards))).clips
     → length out ≡ s.channels → Gave fir_acts s (drained_fir s clips) out
 Gave-last s out clips is none some out_is clips_are long =
     let over = ended-tail s is some in
     let same = length-reverse s.backwards in
-    let counted : s.given + 0 + s.tail ≡ s.taken = rw (none, over) at is.counted in
+    let counted : s.core.given + 0 + s.tail ≡ s.core.taken = rw (none, over) at is.counted in
     let place : length s.line.items - s.tail + centre (length s.backwards) ≡ length s.line.items - s.tail + centre (length (reverse s.backwards)) = rw same refl in
     record {
-      was_wet = dry-tail s.pending s.tail some;
+      was_wet = dry-tail s.core.pending s.tail some;
       gives = record {
         clips = clips;
         first = λ z. rw (none, over, out_is, clips_are, append-nil, place) (tail-step (arguments_of s) s.line.items s.tail some is.tail_held);
@@ -163,9 +164,9 @@ Gave-last s out clips is none some out_is clips_are long =
 pub backwards_of : (s : FirState) (channels : ℕ) (h : List ℤ) → arguments_of s ≡ record { channels = channels; coefficients = h } → s.backwards ≡ reverse h
 backwards_of s channels h e = sym (reverse-reverse s.backwards) ∙ ap (λ (r : FirArguments). reverse r.coefficients) e
 
--- a stage of these arguments that froze to these frames and numbers has such a line and hand
+-- a stage of these arguments that froze to these frames and numbers has such a line and pending frame
 pub stored-is : (s : FirState) (channels : ℕ) (h : List ℤ) (frames : List Samples) (numbers : List ℕ) → IsFir s → arguments_of s ≡ record { channels = channels; coefficients = h } → Freezes fir_acts s frames numbers
-    → IsStored channels (length h - 1) (slice_index_or numbers 6 0) frames s.line s.pending
+    → IsStored channels (length h - 1) (slice_index_or numbers 6 0) frames s.line s.core.pending
 stored-is s channels h frames numbers is made froze =
     let wide : s.channels ≡ channels = ap (λ (r : FirArguments). r.channels) made in
     let same : length s.backwards ≡ length h = sym (length-reverse s.backwards) ∙ ap (λ (r : FirArguments). length r.coefficients) made in
@@ -174,19 +175,19 @@ stored-is s channels h frames numbers is made froze =
       lined = is.line;
       channels_are = is.channels ∙ wide;
       capacity_is = omega arith;
-      held = rw (← wide) is.fits;
+      held = rw (← wide) is.core.fits;
       pending_count_is = rw froze.counted refl;
       stored = froze.stored;
     }
 
 -- and it is the stage that is made of them
 pub thawed-is : (s : FirState) (channels : ℕ) (h backwards : List ℤ) (line : Frames ℤ) (pending : Option Samples) (numbers : List ℕ) → arguments_of s ≡ record { channels = channels; coefficients = h } → numbers ≡ numbers_of fir_acts s
-    → line ≡ s.line → pending ≡ s.pending → backwards ≡ reverse h
-    → record { channels = channels; backwards = backwards; line = line; pending = pending; pending_clips = slice_index_or numbers 7 0; tail = slice_index_or numbers 5 0; taken = slice_index_or numbers 0 0; given = slice_index_or numbers 1 0; clips = slice_index_or numbers 3 0; ended = nat_eq (slice_index_or numbers 2 0) 1 } ≡ s
+    → line ≡ s.line → pending ≡ s.core.pending → backwards ≡ reverse h
+    → record { channels = channels; backwards = backwards; line = line; core = record { pending = pending; pending_clips = slice_index_or numbers 7 0; taken = slice_index_or numbers 0 0; given = slice_index_or numbers 1 0; clips = slice_index_or numbers 3 0; ended = nat_eq (slice_index_or numbers 2 0) 1 }; tail = slice_index_or numbers 5 0 } ≡ s
 thawed-is s channels h backwards line pending numbers made counted line_is pending_is back_is =
     let wide : channels ≡ s.channels = sym (ap (λ (r : FirArguments). r.channels) made) in
     let back : backwards ≡ s.backwards = back_is ∙ sym (backwards_of s channels h made) in
-    rw (wide, back, line_is, pending_is, counted, flag-of s.ended) refl
+    rw (wide, back, line_is, pending_is, counted, flag-of s.core.ended) refl
 
 -- the frames made, by whether the end came
 by_end : (b : Bool) (made taken late : ℕ) → made ≡ cond b taken (taken - late) → (◌≡◌ {A = ℕ} (cond b 1 0) 0 → made ≡ taken - late) × (1 ≤ cond b 1 0 → made ≡ taken)
@@ -203,25 +204,26 @@ pub counts-are : (s : FirState) (channels : ℕ) (h : List ℤ) (frames : List S
     → AreFirCounts (length h) (length frames) (by_name numbers)
 counts-are s channels h frames numbers is made froze =
     let same : length s.backwards ≡ length h = sym (length-reverse s.backwards) ∙ ap (λ (r : FirArguments). length r.coefficients) made in
-    let all : length (s.line.items ++ option_to_list s.pending) ≡ length s.line.items + length (option_to_list s.pending) = length-append s.line.items (option_to_list s.pending) in
+    let all : length (s.line.items ++ pending_frames s.core) ≡ length s.line.items + length (pending_frames s.core) = length-append s.line.items (pending_frames s.core) in
     let held = is.held in
     let full = is.capacity in
     let tail = is.tail_held in
+    let clips_max = is.core.clips_max in
     let bound = is.tail_bound in
-    let sum = by_end s.ended (s.given + length (option_to_list s.pending) + s.tail) s.taken (centre (length s.backwards)) is.counted in
+    let sum = by_end s.core.ended (s.core.given + length (pending_frames s.core) + s.tail) s.core.taken (centre (length s.backwards)) is.counted in
     rw froze.counted
     record {
-      flag = flag-le s.ended;
-      bound = is.bound;
+      flag = flag-le s.core.ended;
+      bound = is.core.bound;
       all = ap length (sym froze.stored);
       held = omega (arith, all, held, full, same);
       running = λ z. let e = sum.0 z in omega (arith, e, same);
       through = sum.1;
       tail_held = omega (arith, tail, held, full, same);
       tail_bound = omega (arith, bound, same);
-      not_ended = λ z. is.not_ended (flag-false s.ended z);
-      clips_max = is.clips_max;
-      pending_max = is.pending_max;
-      idle = is.idle;
-      over = λ some. is.over (flag-true s.ended some);
+      not_ended = λ z. is.not_ended (flag-false s.core.ended z);
+      clips_max = omega (arith, clips_max);
+      pending_max = is.core.pending_max;
+      idle = is.core.idle;
+      over = λ some. is.core.over (flag-true s.core.ended some);
     }

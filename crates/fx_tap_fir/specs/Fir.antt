@@ -3,10 +3,9 @@
 use Rattle.std.specs.Prelude.{ℕ, ℤ, ◌+◌, ◌-◌, ◌/◌, Bool, None, List, [], ◌∷◌, ◌++◌, length, ◌^◌}
 use Rattle.fx_fixed.specs.Rounding.{rounding}
 use Rattle.fx_frame_base.specs.Frame.{Samples}
-use Rattle.fx_frame_base.specs.Stage.{Given, StageKind}
+use Rattle.fx_frame_base.specs.Stage.{Given, StageKind, max_taken}
 use Rattle.fx_frame.specs.History.{sample_before}
 use Rattle.fx_frame_base.specs.Lists.{tabulate}
-use Rattle.fx_frame.specs.Kinds.{max_taken}
 use Rattle.fx_tap_sums.specs.Products.{sum_of_products}
 use Rattle.fx_frame_base.specs.Given.{given_samples}
 

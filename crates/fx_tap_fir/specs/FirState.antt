@@ -1,17 +1,16 @@
 -- The stage of `fir`: what it stores, its invariant, and what it is still to give (this project's profile).
-use Rattle.std.specs.Prelude.{ℕ, ℤ, pos, ◌+◌, ◌-◌, ◌*◌, ◌^◌, ◌≤◌, ◌≡◌, Bool, true, false, ◌&&◌, Option, List, ◌++◌, length, map, min, reverse, MatchResult, Result, option_to_list, is_none, nat_eq, nat_le, slice_index_or, cond, unsigned_abs, All}
+use Rattle.std.specs.Prelude.{ℕ, ℤ, pos, ◌+◌, ◌-◌, ◌*◌, ◌^◌, ◌≤◌, ◌≡◌, false, ◌&&◌, List, ◌++◌, length, min, reverse, Result, is_none, nat_eq, nat_le, slice_index_or, cond, unsigned_abs, All}
 use Rattle.std.specs.Int.{w32}
 use Rattle.fx_fixed.specs.Rounding.{rounding}
 use Rattle.fx_fixed.specs.declared.gains.TheConstants.{UNIT}
 use Rattle.fx_frame_base.specs.Frame.{Samples}
-use Rattle.fx_frame_base.specs.PendingFrame.{IsPending}
+use Rattle.fx_frame_base.specs.declared.stage_core.StageCore.{StageCore}
+use Rattle.fx_frame_base.specs.StageCore.{IsCore, core_counts, pending_frames, pending_given}
 use Rattle.fx_frame_line.specs.Line.{Frames, IsLine}
-use Rattle.fx_frame_base.specs.Stage.{Given, Acts, Restores}
+use Rattle.fx_frame_base.specs.Stage.{Given, Acts, Restores, max_taken}
 use Rattle.fx_frame.specs.Tapped.{TailNumbers, Taps}
 use Rattle.fx_frame_base.specs.Lists.{tabulate}
-use Rattle.fx_frame.specs.Kinds.{max_taken}
 use Rattle.fx_frame_base.specs.declared.stage.ThawFault.{ThawFault}
-use Rattle.fx_frame_base.specs.declared.stage.ThawFault.TheVariants.{Memory}
 use Rattle.fx_tap_sums.specs.Products.{sum_of_products}
 use Rattle.fx_frame_base.specs.Given.{given_samples}
 use Rattle.fx_tap_fir.specs.Fir.{FirArguments, centre, filtered_at, filtered, fir_kind}
@@ -35,15 +34,10 @@ pub record FirState : Type 0 where
   -- the coefficients, the last one first
   pub backwards : List ℤ
   pub line : Frames ℤ
-  -- the frame to be given, and how many of its samples were clipped
-  pub pending : Option Samples
-  pub pending_clips : ℕ
-  -- how many frames are to be given after it
+  -- the pending frame and the counters
+  pub core : StageCore
+  -- how many frames are to be given after the pending one
   pub tail : ℕ
-  pub taken : ℕ
-  pub given : ℕ
-  pub clips : ℕ
-  pub ended : Bool
 
 -- what it was made with
 abbrev pub arguments_of : FirState → FirArguments
@@ -56,18 +50,13 @@ pub record IsFir (s : FirState) : Type 0 where
   pub capacity : s.line.capacity + 1 ≡ length s.backwards
   pub count : length s.backwards ≤ 1024
   pub small : All (λ c. unsigned_abs c ≤ 10 ^ 15) s.backwards
-  pub held : length s.line.items ≡ min s.taken s.line.capacity
-  pub counted : s.given + length (option_to_list s.pending) + s.tail ≡ cond s.ended s.taken (s.taken - centre (length s.backwards))
+  pub held : length s.line.items ≡ min s.core.taken s.line.capacity
+  pub counted : s.core.given + length (pending_frames s.core) + s.tail ≡ cond s.core.ended s.core.taken (s.core.taken - centre (length s.backwards))
   pub tail_held : s.tail ≤ length s.line.items
   pub tail_bound : s.tail ≤ centre (length s.backwards)
-  pub not_ended : s.ended ≡ false → s.tail ≡ 0
-  pub bound : s.taken ≤ max_taken
-  pub clips_max : s.clips ≤ 16 * s.given
-  pub pending_max : s.pending_clips ≤ 16
-  -- no clips without a pending frame, and no pending frame after the end
-  pub idle : length (option_to_list s.pending) ≡ 0 → s.pending_clips ≡ 0
-  pub over : s.ended ≡ true → length (option_to_list s.pending) ≡ 0
-  pub fits : IsPending s.channels s.pending
+  pub not_ended : s.core.ended ≡ false → s.tail ≡ 0
+  -- what holds of each core
+  pub core : IsCore s.channels 16 s.core
 
 -- the invariant of the counts of a stage with `count` coefficients and `stored` stored frames
 pub record AreFirCounts (count stored : ℕ) (n : TailNumbers) : Type 0 where
@@ -85,10 +74,6 @@ pub record AreFirCounts (count stored : ℕ) (n : TailNumbers) : Type 0 where
   pub idle : n.pending_count ≡ 0 → n.pending_clips ≡ 0
   pub over : 1 ≤ n.ended → n.pending_count ≡ 0
 
--- the pending frame
-abbrev pub fir_pending : FirState → List Given
-fir_pending s = map (λ x. record { samples = x; clips = s.pending_clips }) (option_to_list s.pending)
-
 -- what is given for frames that follow those of the line
 abbrev pub fir_after : FirArguments → List Samples → List Samples → List Given
 fir_after r items z = tabulate (filtered_at r (items ++ z)) (length items - centre (length r.coefficients)) (min (length items) (centre (length r.coefficients)) + length z)
@@ -102,12 +87,12 @@ fir_acts = record {
   recipe = arguments_of;
   kind_of = fir_kind;
   meaning = filtered;
-  rest = λ s z. fir_pending s ++ cond s.ended (fir_tail (arguments_of s) s.line.items s.tail) (fir_after (arguments_of s) s.line.items z);
-  counts = λ s. record { taken = s.taken; given = s.given; clips = s.clips; ended = s.ended };
-  dry = λ s. is_none s.pending && nat_eq s.tail 0;
-  stored = λ s. s.line.items ++ option_to_list s.pending;
+  rest = λ s z. pending_given s.core ++ cond s.core.ended (fir_tail (arguments_of s) s.line.items s.tail) (fir_after (arguments_of s) s.line.items z);
+  counts = λ s. core_counts s.core;
+  dry = λ s. is_none s.core.pending && nat_eq s.tail 0;
+  stored = λ s. s.line.items ++ pending_frames s.core;
   capacity = λ s. s.line.capacity;
-  state_counters = λ s. record { first = s.tail; second = length (option_to_list s.pending); third = s.pending_clips };
+  state_counters = λ s. record { first = s.tail; second = length (pending_frames s.core); third = s.core.pending_clips };
 }
 
 -- each sound `fir` with these arguments that stored these frames and counted these numbers is restored, unless memory is refused

@@ -17,6 +17,7 @@ use fx_fixed::Gain;
 use fx_frame::frozen::{stored_in, thawed_line_and_pending};
 use fx_frame::groups::{SAMPLES_OF_BATCH, SAMPLES_OF_GROUP};
 use fx_frame::{Counters, Feeds, Frame, Line, Passed, Passing, Stage, ThawFault, WideFrame};
+use fx_frame_base::StageCore;
 use fx_frame_base::feed::{feed_by_frames, frame_at};
 use fx_frame_base::frame::MAX_CHANNELS;
 use fx_frame_base::stage::MAX_TAKEN;
@@ -63,16 +64,11 @@ const MAX_PLACES_OF_GROUP: usize = 1024 + SAMPLES_OF_GROUP;
 /// The stage of `fir`: each sample is the sum of the samples around it times the coefficients, rounded once.
 #[derive(Drop)]
 pub struct Fir {
-    pending: Option<Frame>,
-    pending_clips: u64,
+    core: StageCore,
     channels: usize,
     kernel: Kernel,
     line: Line,
     tail: usize,
-    taken: u64,
-    given: u64,
-    clips: u64,
-    ended: bool,
 }
 
 impl Model for Fir {
@@ -80,9 +76,9 @@ impl Model for Fir {
 
     ghost Value = { FirState };
 
-    ghost view = { λ s. record { channels = s.channels; backwards = s.kernel; line = s.line; pending = s.pending; pending_clips = s.pending_clips; tail = s.tail; taken = s.taken; given = s.given; clips = s.clips; ended = s.ended } };
+    ghost view = { λ s. record { channels = s.channels; backwards = s.kernel; line = s.line; core = s.core; tail = s.tail } };
 
-    ghost invariant = { λ s. IsFir (record { channels = s.channels; backwards = s.kernel; line = s.line; pending = s.pending; pending_clips = s.pending_clips; tail = s.tail; taken = s.taken; given = s.given; clips = s.clips; ended = s.ended }) };
+    ghost invariant = { λ s. IsFir (record { channels = s.channels; backwards = s.kernel; line = s.line; core = s.core; tail = s.tail }) };
 }
 
 /// Fills the window with the samples of a channel: those of the line, the oldest first, and the latest.
@@ -532,16 +528,11 @@ impl Fir {
         let kernel = Kernel::of(alloc, coefficients)?;
         let line = Line::new(alloc, channels, coefficients.len() - 1)?;
         Ok(Fir {
-            pending: None,
-            pending_clips: 0,
+            core: StageCore::new(),
             channels,
             kernel,
             line,
             tail: 0,
-            taken: 0,
-            given: 0,
-            clips: 0,
-            ended: false,
         })
     }
 }
@@ -629,16 +620,20 @@ impl Fir {
             return Err(ThawFault::Memory);
         };
         Ok(Fir {
-            pending,
-            pending_clips,
+            core: StageCore::restored(
+                pending,
+                pending_clips,
+                Counters {
+                    taken,
+                    given,
+                    clips,
+                    ended: ended == 1,
+                },
+            ),
             channels,
             kernel,
             line,
             tail: tail as usize,
-            taken,
-            given,
-            clips,
-            ended: ended == 1,
         })
     }
 }
@@ -659,29 +654,23 @@ impl Stage for Fir {
         if held < centre_of(self.kernel.len()) {
             self.line.push(frame);
             let _held = self.line.len();
-            self.taken += 1;
+            self.core.take();
             return;
         }
         let (out, clips) = filtered_frame(&self.line, &[frame], self.channels, &self.kernel, held);
         self.line.push(frame);
         let _held = self.line.len();
-        self.pending = Some(out);
-        self.pending_clips = clips;
-        self.taken += 1;
+        self.core.offer(out, clips);
     }
 
     fn end(&mut self) {
         self.tail = self.line.len().min(centre_of(self.kernel.len()));
-        self.ended = true;
+        self.core.end();
     }
 
     fn give(&mut self) -> Option<Frame> {
-        if let Some(frame) = self.pending {
-            self.pending = None;
-            self.given += 1;
-            self.clips += self.pending_clips;
-            self.pending_clips = 0;
-            return Some(frame);
+        if self.core.is_pending() {
+            return self.core.give();
         }
         if self.tail == 0 {
             return None;
@@ -689,23 +678,17 @@ impl Stage for Fir {
         let place = self.line.len() - self.tail + centre_of(self.kernel.len());
         let (out, clips) = filtered_frame(&self.line, &[], self.channels, &self.kernel, place);
         self.tail -= 1;
-        self.given += 1;
-        self.clips += clips;
+        self.core.give_made(clips);
         Some(out)
     }
 
     fn is_dry(&self) -> bool {
-        self.pending.is_none() && self.tail == 0
+        !self.core.is_pending() && self.tail == 0
     }
 
     #[inline(always)]
     fn counter_values(&self) -> Counters {
-        Counters {
-            taken: self.taken,
-            given: self.given,
-            clips: self.clips,
-            ended: self.ended,
-        }
+        self.core.counter_values()
     }
 
     fn is_spent(&self) -> bool {
@@ -713,7 +696,7 @@ impl Stage for Fir {
     }
 
     fn held(&self) -> u64 {
-        self.line.len() as u64 + u64::from(self.pending.is_some())
+        self.line.len() as u64 + u64::from(self.core.is_pending())
     }
 
     fn hold(&self) -> u64 {
@@ -731,27 +714,29 @@ impl Stage for Fir {
     fn state_counters(&self) -> [u64; 3] {
         [
             self.tail as u64,
-            u64::from(self.pending.is_some()),
-            self.pending_clips,
+            u64::from(self.core.is_pending()),
+            self.core.pending_clips(),
         ]
     }
 
     fn stored(&self, j: usize) -> WideFrame {
-        stored_in(&self.line, self.pending, j)
+        stored_in(&self.line, self.core.pending(), j)
     }
 }
 
 impl Feeds for Fir {
     fn feed(&mut self, input: &[i32], output: &mut [i32]) -> Passed {
-        if self.pending.is_some() || self.ended || self.line.len() < self.line.capacity() {
+        if self.core.is_pending()
+            || self.core.is_ended()
+            || self.line.len() < self.line.capacity()
+        {
             return feed_by_frames(self, input, output);
         }
         let channels = self.channels;
         let count = (input.len() / channels).min(output.len() / channels);
-        self.clips += filter_frames(&self.kernel, &mut self.line, channels, count, input, output);
+        let clipped = filter_frames(&self.kernel, &mut self.line, channels, count, input, output);
         let _held = self.line.len();
-        self.taken += count as u64;
-        self.given += count as u64;
+        self.core.pass(count, clipped);
         Passed {
             taken: count,
             given: count,
@@ -764,7 +749,7 @@ impl Feeds for Fir {
         if held < centre_of(self.kernel.len()) {
             self.line.push(came);
             let _held = self.line.len();
-            self.taken += 1;
+            self.core.take();
             return Passing::Kept;
         }
         let latest = &[came];
@@ -772,9 +757,7 @@ impl Feeds for Fir {
         let clips = filtered_into(&self.line, latest, channels, &self.kernel, held, samples);
         self.line.push(came);
         let _held = self.line.len();
-        self.clips += clips;
-        self.taken += 1;
-        self.given += 1;
+        self.core.pass(1, clips);
         Passing::Through
     }
 
@@ -782,10 +765,7 @@ impl Feeds for Fir {
         let channels = self.channels;
         let clips = filter_batch(&self.kernel, &mut self.line, channels, count, samples);
         let _held = self.line.len();
-        let passed = count as u64;
-        self.clips += clips;
-        self.taken += passed;
-        self.given += passed;
+        self.core.pass(count, clips);
     }
 
     fn ahead(&self) -> u64 {
@@ -793,7 +773,7 @@ impl Feeds for Fir {
     }
 
     fn one_to_one(&self) -> u64 {
-        if self.taken < centre_of(self.kernel.len()) as u64 {
+        if self.core.counter_values().taken < centre_of(self.kernel.len()) as u64 {
             return 0;
         }
         u64::MAX

@@ -9,6 +9,9 @@ use Rattle.fx_frame_base.specs.Frame.{Samples}
 use Rattle.fx_frame_base.specs.Lists.{pieces}
 use Rattle.fx_frame_base.specs.Pipeline.{EachThrough}
 use Rattle.fx_frame_base.specs.Stage.{Acts, Given, IsDry}
+use Rattle.fx_frame_base.specs.StageCore.{after_passing}
+use Rattle.fx_frame_base.specs.declared.stage_core.StageCore.{StageCore}
+use Rattle.fx_frame_base.proofs.Cores.{IsPassedCore, is-passed-core, passed_core}
 use Rattle.fx_frame_base.proofs.FedLaws.{Fed-then, total-append}
 use Rattle.fx_frame_base.proofs.Puts.{pieces-take}
 use Rattle.fx_frame_base.proofs.Pieces.{length-pieces, pieces-front}
@@ -31,23 +34,26 @@ made_of-more mapped xs x = map-append (λ y. (mapped y).samples) xs (x ∷ [])
 pub clips_in-more : (mapped : Samples → Given) (xs : List Samples) (x : Samples) → clips_in mapped (xs ++ x ∷ []) ≡ clips_in mapped xs + (mapped x).clips
 clips_in-more mapped xs x = omega (arith, total-append (λ y. (mapped y).clips) xs (x ∷ []))
 
+-- a sound stage that is dry, and was not given the end, has given a frame for each that it took
+pub is-even : {M : Type 0} (outputs : M → ℕ) (s : MapState M) → IsMapState outputs s → s.core.pending ≡ None → s.core.ended ≡ false → IsPassedCore s.core
+is-even outputs s is none running =
+    let counted = rw none at is.counted in
+    is-passed-core s.core none (is.core.idle (rw none refl)) running (omega (arith, counted))
+
 module _ {M : Type 0} (inputs outputs : M → ℕ) (mapped : M → Samples → Given) (m : M) where
-  -- such a stage with no frame in hand, which has given what it took
-  abbrev pub ready : ℕ → ℕ → MapState M
-  ready count clips = record { mapping = m; pending = None; pending_clips = 0; taken = count; given = count; clips = clips; ended = false }
+  -- the stage of this mapping with such a core
+  abbrev pub stage : StageCore → MapState M
+  stage c = record { mapping = m; core = c }
 
   abbrev pub acts : Acts (MapState M) M
   acts = map_acts inputs outputs mapped
 
-  -- a frame was taken, and what is made of it is in hand
-  abbrev pub holding : ℕ → ℕ → Samples → MapState M
-  holding count clips x = record { mapping = m; pending = Some (mapped m x).samples; pending_clips = (mapped m x).clips; taken = count + 1; given = count; clips = clips; ended = false }
-
-  one-passed : (count clips : ℕ) (x : Samples) → length (mapped m x).samples ≡ outputs m → PassedOn acts Through (ready count clips) (ready (count + 1) (clips + (mapped m x).clips)) x (mapped m x).samples
+  one-passed : (count clips : ℕ) (x : Samples) → length (mapped m x).samples ≡ outputs m
+      → PassedOn acts Through (stage (passed_core count clips)) (stage (passed_core (count + 1) (clips + (mapped m x).clips))) x (mapped m x).samples
   one-passed count clips x sides =
-      let first : MapState M = ready count clips in
-      let mid : MapState M = holding count clips x in
-      let last : MapState M = ready (count + 1) (clips + (mapped m x).clips) in
+      let first : MapState M = stage (passed_core count clips) in
+      let mid : MapState M = stage (record { pending = Some (mapped m x).samples; pending_clips = (mapped m x).clips; taken = count + 1; given = count; clips = clips; ended = false }) in
+      let last : MapState M = stage (passed_core (count + 1) (clips + (mapped m x).clips)) in
       let took : TookNext acts first mid x = record { dry = refl; due = refl; not_ended = refl; not_spent = refl; took = record { rest = λ z. refl; counted = refl; recipe_stays = refl }; held = omega arith } in
       let gave : GaveNext acts mid last (mapped m x).samples = record {
         gave = record {
@@ -62,82 +68,69 @@ module _ {M : Type 0} (inputs outputs : M → ℕ) (mapped : M → Samples → G
       } in
       (mid, took, gave, refl)
 
-  one-fed : (count clips : ℕ) (x : Samples) → length (mapped m x).samples ≡ outputs m → Fed acts (ready count clips) (x ∷ []) ((mapped m x).samples ∷ []) (ready (count + 1) (clips + (mapped m x).clips))
+  one-fed : (count clips : ℕ) (x : Samples) → length (mapped m x).samples ≡ outputs m
+      → Fed acts (stage (passed_core count clips)) (x ∷ []) ((mapped m x).samples ∷ []) (stage (passed_core (count + 1) (clips + (mapped m x).clips)))
   one-fed count clips x sides =
       let passed = one-passed count clips x sides in
-      given (x ∷ []) [] (mapped m x).samples passed.0 (ready (count + 1) (clips + (mapped m x).clips)) (taken [] [] x (ready count clips) passed.0 nothing passed.1) passed.2
+      given (x ∷ []) [] (mapped m x).samples passed.0 (stage (passed_core (count + 1) (clips + (mapped m x).clips))) (taken [] [] x (stage (passed_core count clips)) passed.0 nothing passed.1) passed.2
 
   -- one frame, passed on in its place
-  pub frame-passed : (s : MapState M) (x y : Samples) (clips : ℕ) → s.mapping ≡ m → s.pending ≡ None → s.pending_clips ≡ 0 → s.ended ≡ false → s.given ≡ s.taken → y ≡ (mapped m x).samples → clips ≡ (mapped m x).clips → length (mapped m x).samples ≡ outputs m
-      → PassedOn acts Through s (record s { taken = s.taken + 1; given = s.given + 1; clips = s.clips + clips }) x y
-  frame-passed s x y clips e h k over g made counted sides =
-      let last : ◌≡◌ {A = MapState M} (record { mapping = s.mapping; pending = s.pending; pending_clips = s.pending_clips; taken = s.taken + 1; given = s.given + 1; clips = s.clips + clips; ended = s.ended }) (ready (s.taken + 1) (s.clips + (mapped m x).clips)) = rw (e, h, k, over, g, counted) refl in
-      let whole : ◌≡◌ {A = MapState M} (record { mapping = s.mapping; pending = s.pending; pending_clips = s.pending_clips; taken = s.taken; given = s.given; clips = s.clips; ended = s.ended }) (ready s.taken s.clips) = rw (e, h, k, over, g) refl in
-      let start : s ≡ ready s.taken s.clips = whole in
-      let new : record s { taken = s.taken + 1; given = s.given + 1; clips = s.clips + clips } ≡ ready (s.taken + 1) (s.clips + (mapped m x).clips) = last in
-      let From : MapState M → Type 0 = λ t. PassedOn acts Through t (ready (s.taken + 1) (s.clips + (mapped m x).clips)) x (mapped m x).samples in
-      let To : MapState M → Type 0 = λ t. PassedOn acts Through s t x (mapped m x).samples in
-      rw made (subst To (sym new) (subst From (sym start) (one-passed s.taken s.clips x sides)))
+  pub frame-passed : (c : StageCore) (x y : Samples) (clips : ℕ) → IsPassedCore c → y ≡ (mapped m x).samples → clips ≡ (mapped m x).clips → length (mapped m x).samples ≡ outputs m
+      → PassedOn acts Through (stage c) (stage (after_passing 1 clips c)) x y
+  frame-passed c x y clips passed made counted sides =
+      let Passes : StageCore → Type 0 = λ d. PassedOn acts Through (stage d) (stage (after_passing 1 (mapped m x).clips d)) x (mapped m x).samples in
+      rw (made, counted) (subst Passes (sym passed) (one-passed c.taken c.clips x sides))
 
   -- frame by frame
-  pub maps-fed : (xs : List Samples) (count clips : ℕ) → All (λ (y : Samples). length y ≡ outputs m) (made_of (mapped m) xs) → Fed acts (ready count clips) xs (made_of (mapped m) xs) (ready (count + length xs) (clips + clips_in (mapped m) xs))
+  pub maps-fed : (xs : List Samples) (count clips : ℕ) → All (λ (y : Samples). length y ≡ outputs m) (made_of (mapped m) xs)
+      → Fed acts (stage (passed_core count clips)) xs (made_of (mapped m) xs) (stage (passed_core (count + length xs) (clips + clips_in (mapped m) xs)))
   maps-fed [] count clips sides = rw (add-zero, add-zero) nothing
   maps-fed (x ∷ xs) count clips sides =
-      let one : Fed acts (ready count clips) (x ∷ []) ((mapped m x).samples ∷ []) (ready (count + 1) (clips + (mapped m x).clips)) =
+      let one : Fed acts (stage (passed_core count clips)) (x ∷ []) ((mapped m x).samples ∷ []) (stage (passed_core (count + 1) (clips + (mapped m x).clips))) =
       one-fed count clips x (All-head (λ (y : Samples). length y ≡ outputs m) (mapped m x).samples (made_of (mapped m) xs) sides) in
       let more = maps-fed xs (count + 1) (clips + (mapped m x).clips) (All-tail (λ (y : Samples). length y ≡ outputs m) (mapped m x).samples (made_of (mapped m) xs) sides) in
-      let all : Fed acts (ready count clips) (x ∷ xs) (made_of (mapped m) (x ∷ xs)) (ready (count + 1 + length xs) (clips + (mapped m x).clips + clips_in (mapped m) xs)) = Fed-then acts _ _ _ _ _ _ _ one more in
+      let all : Fed acts (stage (passed_core count clips)) (x ∷ xs) (made_of (mapped m) (x ∷ xs)) (stage (passed_core (count + 1 + length xs) (clips + (mapped m x).clips + clips_in (mapped m) xs))) = Fed-then acts _ _ _ _ _ _ _ one more in
       let places : count + 1 + length xs ≡ count + length (x ∷ xs) = omega arith in
       let clipped : clips + (mapped m x).clips + clips_in (mapped m) xs ≡ clips + clips_in (mapped m) (x ∷ xs) = omega arith in
       rw (places, clipped) at all
 
   -- a block of frames: the counters are added to once
-  pub block-fed : (s : MapState M) (n clips : ℕ) (input output : List ℤ) → s.mapping ≡ m → s.pending ≡ None → s.pending_clips ≡ 0 → s.ended ≡ false → s.given ≡ s.taken → n * outputs m ≤ length output
+  pub block-fed : (c : StageCore) (n clips : ℕ) (input output : List ℤ) → IsPassedCore c → n * outputs m ≤ length output
       → pieces (outputs m) n output ≡ made_of (mapped m) (pieces (inputs m) n input) → clips ≡ clips_in (mapped m) (pieces (inputs m) n input)
-      → Fed acts s (pieces (inputs m) n input) (pieces (outputs m) n output) (record s { taken = s.taken + n; given = s.given + n; clips = s.clips + clips })
-  block-fed s n clips input output e h k over g long made counted =
+      → Fed acts (stage c) (pieces (inputs m) n input) (pieces (outputs m) n output) (stage (after_passing n clips c))
+  block-fed c n clips input output passed long made counted =
       let xs : List Samples = pieces (inputs m) n input in
       let sides : All (λ (y : Samples). length y ≡ outputs m) (made_of (mapped m) xs) = rw (← made) (pieces-sides (outputs m) n output long) in
-      let fed : Fed acts (ready s.taken s.clips) xs (made_of (mapped m) xs) (ready (s.taken + length xs) (s.clips + clips_in (mapped m) xs)) = maps-fed xs s.taken s.clips sides in
       let many : length xs ≡ n = length-pieces (inputs m) n input in
-      let whole : ◌≡◌ {A = MapState M} (record { mapping = s.mapping; pending = s.pending; pending_clips = s.pending_clips; taken = s.taken; given = s.given; clips = s.clips; ended = s.ended }) (ready s.taken s.clips) = rw (e, h, k, over, g) refl in
-      let last : ◌≡◌ {A = MapState M} (record { mapping = s.mapping; pending = s.pending; pending_clips = s.pending_clips; taken = s.taken + n; given = s.given + n; clips = s.clips + clips; ended = s.ended }) (ready (s.taken + length xs) (s.clips + clips_in (mapped m) xs)) = rw (e, h, k, over, g, many, counted) refl in
-      let start : s ≡ ready s.taken s.clips = whole in
-      rw (made, last) (subst (λ (t : MapState M). Fed acts t xs (made_of (mapped m) xs) (ready (s.taken + length xs) (s.clips + clips_in (mapped m) xs))) (sym start) fed)
+      let Feeds : StageCore → Type 0 = λ d. Fed acts (stage d) xs (made_of (mapped m) xs) (stage (after_passing (length xs) (clips_in (mapped m) xs) d)) in
+      let fed : Feeds c = subst Feeds (sym passed) (maps-fed xs c.taken c.clips sides) in
+      rw (made, counted) (rw many at fed)
 
-  ready-dry : (count clips : ℕ) → IsDry acts (ready count clips)
-  ready-dry count clips = record { due = λ e. refl; over = λ e. absurd (cc (e)) }
+  passed-dry : (count clips : ℕ) → IsDry acts (stage (passed_core count clips))
+  passed-dry count clips = record { due = λ e. refl; over = λ e. absurd (cc (e)) }
 
-  maps-through : (xs : List Samples) (count clips : ℕ) → All (λ (y : Samples). length y ≡ outputs m) (made_of (mapped m) xs) → EachThrough acts xs (made_of (mapped m) xs) (ready count clips) (ready (count + length xs) (clips + clips_in (mapped m) xs))
+  maps-through : (xs : List Samples) (count clips : ℕ) → All (λ (y : Samples). length y ≡ outputs m) (made_of (mapped m) xs)
+      → EachThrough acts xs (made_of (mapped m) xs) (stage (passed_core count clips)) (stage (passed_core (count + length xs) (clips + clips_in (mapped m) xs)))
   maps-through [] count clips sides = rw (add-zero, add-zero) refl
   maps-through (x ∷ xs) count clips sides =
       let more = maps-through xs (count + 1) (clips + (mapped m x).clips) (All-tail (λ (y : Samples). length y ≡ outputs m) (mapped m x).samples (made_of (mapped m) xs) sides) in
       let places : count + 1 + length xs ≡ count + length (x ∷ xs) = omega arith in
       let clipped : clips + (mapped m x).clips + clips_in (mapped m) xs ≡ clips + clips_in (mapped m) (x ∷ xs) = omega arith in (
-        ready (count + 1) (clips + (mapped m x).clips),
+        stage (passed_core (count + 1) (clips + (mapped m x).clips)),
         one-passed count clips x (All-head (λ (y : Samples). length y ≡ outputs m) (mapped m x).samples (made_of (mapped m) xs) sides),
-        ready-dry (count + 1) (clips + (mapped m x).clips),
+        passed-dry (count + 1) (clips + (mapped m x).clips),
         rw (places, clipped) at more,
       )
 
-  -- a block of frames of which each is given before the next is taken
-  block-through : (s : MapState M) (n clips : ℕ) (xs ys : List Samples) → s.mapping ≡ m → s.pending ≡ None → s.pending_clips ≡ 0 → s.ended ≡ false → s.given ≡ s.taken → length xs ≡ n → All (λ (y : Samples). length y ≡ outputs m) ys → ys ≡ made_of (mapped m) xs → clips ≡ clips_in (mapped m) xs
-      → EachThrough acts xs ys s (record s { taken = s.taken + n; given = s.given + n; clips = s.clips + clips })
-  block-through s n clips xs ys e h k over g many sides made counted =
-      let all : All (λ (y : Samples). length y ≡ outputs m) (made_of (mapped m) xs) = rw made at sides in
-      let through = maps-through xs s.taken s.clips all in
-      let whole : ◌≡◌ {A = MapState M} (record { mapping = s.mapping; pending = s.pending; pending_clips = s.pending_clips; taken = s.taken; given = s.given; clips = s.clips; ended = s.ended }) (ready s.taken s.clips) = rw (e, h, k, over, g) refl in
-      let last : ◌≡◌ {A = MapState M} (record { mapping = s.mapping; pending = s.pending; pending_clips = s.pending_clips; taken = s.taken + n; given = s.given + n; clips = s.clips + clips; ended = s.ended }) (ready (s.taken + length xs) (s.clips + clips_in (mapped m) xs)) = rw (e, h, k, over, g, many, counted) refl in
-      let start : s ≡ ready s.taken s.clips = whole in
-      rw (made, last) (subst (λ (t : MapState M). EachThrough acts xs (made_of (mapped m) xs) t (ready (s.taken + length xs) (s.clips + clips_in (mapped m) xs))) (sym start) through)
-
--- the same for any such stage that is dry
-pub dry-through : {M : Type 0} (inputs outputs : M → ℕ) (mapped : M → Samples → Given) (s : MapState M) (n clips : ℕ) (xs ys : List Samples) → IsMapState outputs s → s.pending ≡ None → s.ended ≡ false → length xs ≡ n → All (λ (y : Samples). length y ≡ outputs s.mapping) ys → ys ≡ made_of (mapped s.mapping) xs → clips ≡ clips_in (mapped s.mapping) xs
-    → EachThrough (map_acts inputs outputs mapped) xs ys s (record s { taken = s.taken + n; given = s.given + n; clips = s.clips + clips })
-dry-through inputs outputs mapped s n clips xs ys is none over many sides made counted =
-    let all = rw none at is.counted in
-    let even : s.given ≡ s.taken = omega (arith, all) in
-    block-through inputs outputs mapped s.mapping s n clips xs ys refl none (is.idle (rw none refl)) over even many sides made counted
+-- a block of frames of which each is given before the next is taken, by a stage that is dry
+pub dry-through : {M : Type 0} (inputs outputs : M → ℕ) (mapped : M → Samples → Given) (s : MapState M) (n clips : ℕ) (xs ys : List Samples) → IsMapState outputs s → s.core.pending ≡ None → s.core.ended ≡ false → length xs ≡ n → All (λ (y : Samples). length y ≡ outputs s.mapping) ys → ys ≡ made_of (mapped s.mapping) xs → clips ≡ clips_in (mapped s.mapping) xs
+    → EachThrough (map_acts inputs outputs mapped) xs ys s (record s { core = after_passing n clips s.core })
+dry-through inputs outputs mapped s n clips xs ys is none running many sides made counted =
+    let c : StageCore = s.core in
+    let sided = rw made at sides in
+    let Passes : StageCore → Type 0 = λ d. EachThrough (map_acts inputs outputs mapped) xs (made_of (mapped s.mapping) xs) (stage inputs outputs mapped s.mapping d) (stage inputs outputs mapped s.mapping (after_passing (length xs) (clips_in (mapped s.mapping) xs) d)) in
+    let through : Passes c = subst Passes (sym (is-even outputs s is none running)) (maps-through inputs outputs mapped s.mapping xs c.taken c.clips sided) in
+    rw (made, counted) (rw many at through)
 
 pub none-is : {X : Type 0} (o : Option X) → is_none o ≡ true → o ≡ None
 none-is None e = refl

@@ -1,9 +1,8 @@
 -- What a stage that maps each frame alone counted, where it froze.
-use Rattle.std.proofs.Common.{ℕ, ◌≡◌, ◌+◌, ◌*◌, ◌≤◌, Option, Some, None, List, length, refl, sym, ap, ◌∙◌, nat_eq, option_to_list, slice_index_or}
+use Rattle.std.proofs.Common.{ℕ, ◌≡◌, ◌+◌, ◌*◌, ◌≤◌, Option, Some, None, List, length, refl, sym, ap, ◌∙◌, arith, nat_eq, option_to_list, slice_index_or}
 use Rattle.fx_frame_base.specs.Frame.{Samples}
-use Rattle.fx_frame_base.specs.Stage.{Freezes, Given}
+use Rattle.fx_frame_base.specs.Stage.{Freezes, Given, max_taken}
 use Rattle.fx_tap_pointwise.specs.Mapped.{IsMapState, MapState, map_acts}
-use Rattle.fx_frame.specs.Kinds.{max_taken}
 use Rattle.fx_frame.proofs.Counts.{flag-of, flag-true}
 use Rattle.fx_frame_base.proofs.Flags.{flag-le}
 
@@ -31,21 +30,21 @@ module _ {M : Type 0} (inputs outputs : M → ℕ) (mapped : M → Samples → G
   -- a stage that froze to these frames and numbers has such counts
   pub counts-are : IsMapState outputs s → AreMapCounts (length frames) numbers
   counts-are is = rw froze.counted record {
-    flag = flag-le s.ended;
+    flag = flag-le s.core.ended;
     all = ap length (sym froze.stored);
     second_counter = refl;
     third_counter = refl;
-    bound = is.bound;
+    bound = is.core.bound;
     counted = is.counted;
-    pending_max = is.pending_max;
-    clips_max = is.clips_max;
-    idle = is.idle;
-    over = λ some. is.over (flag-true s.ended some);
+    pending_max = is.core.pending_max;
+    clips_max = omega (arith, is.core.clips_max);
+    idle = is.core.idle;
+    over = λ some. is.core.over (flag-true s.core.ended some);
   }
 
   -- and it is the stage that is made of them
   pub thawed-is : (m : M) (pending : Option Samples) → s.mapping ≡ m → frames ≡ option_to_list pending
-      → record { mapping = m; pending = pending; pending_clips = slice_index_or numbers 5 0; taken = slice_index_or numbers 0 0; given = slice_index_or numbers 1 0; clips = slice_index_or numbers 3 0; ended = nat_eq (slice_index_or numbers 2 0) 1 } ≡ s
+      → record { mapping = m; core = record { pending = pending; pending_clips = slice_index_or numbers 5 0; taken = slice_index_or numbers 0 0; given = slice_index_or numbers 1 0; clips = slice_index_or numbers 3 0; ended = nat_eq (slice_index_or numbers 2 0) 1 } } ≡ s
   thawed-is m pending same stored =
-      let pending_is : pending ≡ s.pending = pending-is pending s.pending (sym stored ∙ froze.stored) in
-      rw (← same, pending_is, froze.counted, flag-of s.ended) refl
+      let pending_is : pending ≡ s.core.pending = pending-is pending s.core.pending (sym stored ∙ froze.stored) in
+      rw (← same, pending_is, froze.counted, flag-of s.core.ended) refl

@@ -1,5 +1,5 @@
 -- How the stages of effects behave that round each sample alone (this project's profile).
-use Rattle.std.specs.Prelude.{ℕ, ℤ, ◌≡◌, Bool, List, Result, Ok}
+use Rattle.std.specs.Prelude.{ℕ, ℤ, Bool, List, Result}
 use Rattle.fx_frame_base.specs.declared.stage.ThawFault.{ThawFault}
 use Rattle.fx_frame_base.specs.Frame.{Samples}
 use Rattle.fx_frame_base.specs.Lists.{pieces}

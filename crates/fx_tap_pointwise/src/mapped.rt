@@ -7,6 +7,7 @@ ghost use Rattle.fx_frame.specs.Made.{clips_in, made_of};
 ghost use Rattle.fx_tap_pointwise.specs.Mapped.{MapsBlock, RestoresMapped};
 
 use fx_frame::{Counters, Feeds, Frame, Passed, Passing, Stage, ThawFault, WideFrame};
+use fx_frame_base::StageCore;
 use fx_frame_base::feed::{feed_by_frames, frame_at, put_frame};
 use fx_frame_base::frame::MAX_CHANNELS;
 use fx_frame_base::pending::{stored_pending, thawed_pending};
@@ -155,12 +156,7 @@ pub fn map_by_frames<M: Mapping>(
 /// The stage of a memoryless effect. It takes up to `2^56` frames.
 #[derive(Drop)]
 pub struct Mapped<M: Mapping + Drop> {
-    pending: Option<Frame>,
-    pending_clips: u64,
-    taken: u64,
-    given: u64,
-    clips: u64,
-    ended: bool,
+    core: StageCore,
     mapping: M,
 }
 
@@ -169,9 +165,9 @@ impl<M: Mapping + Drop> Model for Mapped<M> {
 
     ghost Value = { MapState M };
 
-    ghost view = { λ s. record { mapping = s.mapping; pending = s.pending; pending_clips = s.pending_clips; taken = s.taken; given = s.given; clips = s.clips; ended = s.ended } };
+    ghost view = { λ s. record { mapping = s.mapping; core = s.core } };
 
-    ghost invariant = { λ s. IsMapState M.outputs (record { mapping = s.mapping; pending = s.pending; pending_clips = s.pending_clips; taken = s.taken; given = s.given; clips = s.clips; ended = s.ended }) };
+    ghost invariant = { λ s. IsMapState M.outputs (record { mapping = s.mapping; core = s.core }) };
 }
 
 impl<M: Mapping + Drop> Mapped<M> {
@@ -182,12 +178,7 @@ impl<M: Mapping + Drop> Mapped<M> {
         ensures { IsNew (map_acts M.inputs M.outputs M.mapped) mapping result }
     {
         Mapped {
-            pending: None,
-            pending_clips: 0,
-            taken: 0,
-            given: 0,
-            clips: 0,
-            ended: false,
+            core: StageCore::new(),
             mapping,
         }
     }
@@ -226,13 +217,14 @@ impl<M: Mapping + Drop> Mapped<M> {
             return Err(ThawFault::BadSnapshot);
         }
         let pending = thawed_pending(frames, mapping.out_channels())?;
-        Ok(Mapped {
-            pending,
-            pending_clips,
+        let counters = Counters {
             taken,
             given,
             clips,
             ended: ended == 1,
+        };
+        Ok(Mapped {
+            core: StageCore::restored(pending, pending_clips, counters),
             mapping,
         })
     }
@@ -241,7 +233,8 @@ impl<M: Mapping + Drop> Mapped<M> {
 impl<M: Mapping + Drop> Mapped<M> {
     ghost use Rattle.std.specs.Prelude.{◌+◌, None};
     ghost use Rattle.fx_tap_pointwise.specs.Mapped.{IsMapState};
-    ghost use Rattle.fx_frame.specs.Kinds.{max_taken};
+    ghost use Rattle.fx_frame_base.specs.Stage.{max_taken};
+    ghost use Rattle.fx_frame_base.specs.StageCore.{after_passing};
 
     /// What it makes of a frame.
     #[inline(always)]
@@ -255,14 +248,12 @@ impl<M: Mapping + Drop> Mapped<M> {
     /// Counts frames that it took and gave, and how many of their samples were clipped.
     #[inline(always)]
     pub(crate) fn count_passed(&mut self, count: usize, clips: u64)
-        requires dry { self.old.pending ≡ None }
-        requires bound { self.old.taken + count ≤ max_taken }
+        requires dry { self.old.core.pending ≡ None }
+        requires bound { self.old.core.taken + count ≤ max_taken }
         requires clips_max { clips ≤ 16 * count }
-        ensures { self.new ≡ record self.old { taken = self.old.taken + count; given = self.old.given + count; clips = self.old.clips + clips } }
+        ensures { self.new ≡ record self.old { core = after_passing count clips self.old.core } }
     {
-        self.taken += count as u64;
-        self.given += count as u64;
-        self.clips += clips;
+        self.core.pass(count, clips);
     }
 }
 
@@ -280,36 +271,24 @@ impl<M: Mapping + Drop> Stage for Mapped<M> {
     fn take(&mut self, frame: Frame) {
         let (made, clips) = self.mapping.map(frame);
         let _channels = made.channels();
-        self.pending = Some(made);
-        self.pending_clips = clips;
-        self.taken += 1;
+        self.core.offer(made, clips);
     }
 
     fn end(&mut self) {
-        self.ended = true;
+        self.core.end();
     }
 
     fn give(&mut self) -> Option<Frame> {
-        let frame = self.pending?;
-        self.pending = None;
-        self.given += 1;
-        self.clips += self.pending_clips;
-        self.pending_clips = 0;
-        Some(frame)
+        self.core.give()
     }
 
     fn is_dry(&self) -> bool {
-        self.pending.is_none()
+        !self.core.is_pending()
     }
 
     #[inline(always)]
     fn counter_values(&self) -> Counters {
-        Counters {
-            taken: self.taken,
-            given: self.given,
-            clips: self.clips,
-            ended: self.ended,
-        }
+        self.core.counter_values()
     }
 
     fn is_spent(&self) -> bool {
@@ -317,7 +296,7 @@ impl<M: Mapping + Drop> Stage for Mapped<M> {
     }
 
     fn held(&self) -> u64 {
-        u64::from(self.pending.is_some())
+        u64::from(self.core.is_pending())
     }
 
     fn hold(&self) -> u64 {
@@ -333,11 +312,11 @@ impl<M: Mapping + Drop> Stage for Mapped<M> {
     }
 
     fn state_counters(&self) -> [u64; 3] {
-        [self.pending_clips, 0, 0]
+        [self.core.pending_clips(), 0, 0]
     }
 
     fn stored(&self, j: usize) -> WideFrame {
-        stored_pending(self.pending, j)
+        stored_pending(self.core.pending(), j)
     }
 }
 
@@ -345,13 +324,12 @@ impl<M: MapsMany + Drop> Feeds for Mapped<M> {
     fn feed(&mut self, input: &[i32], output: &mut [i32]) -> Passed {
         let inputs = self.mapping.in_channels();
         let outputs = self.mapping.out_channels();
-        if self.pending.is_some() || self.pending_clips != 0 || self.ended || outputs == 0 {
+        if self.core.is_pending() || self.core.is_ended() || outputs == 0 {
             return feed_by_frames(self, input, output);
         }
         let count = (input.len() / inputs).min(output.len() / outputs);
-        self.clips += self.mapping.map_many(input, output, count);
-        self.taken += count as u64;
-        self.given += count as u64;
+        let clips = self.mapping.map_many(input, output, count);
+        self.core.pass(count, clips);
         Passed {
             taken: count,
             given: count,
@@ -360,9 +338,8 @@ impl<M: MapsMany + Drop> Feeds for Mapped<M> {
 
     #[inline(always)]
     fn pass_samples(&mut self, samples: &mut [i32]) -> Passing {
-        self.clips += self.mapping.map_over(samples);
-        self.taken += 1;
-        self.given += 1;
+        let clips = self.mapping.map_over(samples);
+        self.core.pass(1, clips);
         Passing::Through
     }
 
@@ -371,17 +348,15 @@ impl<M: MapsMany + Drop> Feeds for Mapped<M> {
         let samples = *places;
         let outputs = self.mapping.out_channels();
         let made = &mut places[..outputs];
-        self.clips += self.mapping.map_into(&samples[..*channels], made);
+        let clips = self.mapping.map_into(&samples[..*channels], made);
         *channels = outputs;
-        self.taken += 1;
-        self.given += 1;
+        self.core.pass(1, clips);
         Passing::Through
     }
 
     fn pass_frames(&mut self, count: usize, samples: &mut [i32]) {
-        self.clips += self.mapping.map_many_over(samples, count);
-        self.taken += count as u64;
-        self.given += count as u64;
+        let clips = self.mapping.map_many_over(samples, count);
+        self.core.pass(count, clips);
     }
 
     fn ahead(&self) -> u64 {

@@ -35,7 +35,7 @@ pub record Devices (I R O F : Type 0) : Type 1 where
   pub output : ByteWriter O
   pub created : FileWriter F
 
--- these
+-- such devices, from how each is specified
 abbrev pub devices : {I R O F : Type 0} → ByteReader I → ByteReader R → ByteWriter O → FileWriter F → Devices I R O F
 devices input file output created = record { input = input; file = file; output = output; created = created }
 

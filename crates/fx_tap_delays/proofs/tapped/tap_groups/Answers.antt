@@ -23,7 +23,7 @@ groups-preserved g c =
     let width : done * ch + n * ch - done * ch ≡ n * ch = omega arith in
     let free : c.args.count * ch ≤ length out = omega (arith, c.requires.samples, c.groups.auto.samples) in
     let held = c.len-held.ensures.line.within in
-    let long : taps.reach m ≤ start.capacity = let e = c.requires.capacity in omega arith in
+    let long : taps.reach m ≤ start.capacity = let e = c.requires.line.capacity in omega arith in
     let ys : List Samples = pieces ch n (take (n * ch) (drop (done * ch) input)) in
     let more = group-read ch done n c.args.count within input (omega (arith, c.requires.samples)) in
     let ensured = rw (is_ch, width, old.made.rest_unchanged) at c.tap_frames-clips.ensures in
@@ -32,7 +32,7 @@ groups-preserved g c =
     record {
       within = within;
       made = made-more taps near m start line done (done + n) input input out ys held long more old.made _ _ (pieces ch n made) (group-put ch done n c.args.count within out made free kept) (group-rest ch done n c.args.count within out made free kept input old.made.rest_unchanged) ensured.frames ensured.line c.tap_frames-clips.ensures.line_capacity c.tap_frames-clips.ensures.line_channels;
-      clips = clips-more taps near m start line done (done + n) input input out ys held long more old.made c.groups.clips c.tap_frames-clips.result n refl old.clips ensured.clips ensured.bound ensured.small;
+      clips = clips-more taps near m start line done (done + n) input input out ys held long more old.made c.groups.clips c.tap_frames-clips.result n refl old.clips ensured.clips.counted ensured.clips.bound ensured.clips.small;
     }
 
 pub slice_bounds-tap_frames-end : goal.slice_bounds-tap_frames-end

@@ -9,8 +9,8 @@ use Rattle.fx_frame_line.proofs.RingLaws.{keep-twice}
 use Rattle.fx_tap_fir.specs.Fir.{FirArguments}
 use Rattle.fx_tap_fir.specs.FirState.{fir_taps}
 use Rattle.fx_frame.specs.Tapped.{clips_after, frames_after, last_of}
-use Rattle.fx_tap_fir.proofs.FirBlocks.{clips-append, fir-near, frames-append, pieces-joined}
-use Rattle.fx_frame.proofs.TapBlocks.{length-last}
+use Rattle.fx_tap_fir.proofs.FirBlocks.{fir-near, pieces-joined}
+use Rattle.fx_frame.proofs.TapBlocks.{clips-joined, frames-joined, length-last}
 use Rattle.fx_tap_fir.proofs.fir.filter_frames.Goals as goal
 
 pub slice_bounds-frames-end : goal.slice_bounds-frames-end
@@ -74,10 +74,10 @@ pieces-preserved c =
     record {
       place = more;
       frames = joined ∙ ap (λ ps. ps ++ pieces size piece out) old.frames ∙ ap (λ ps. frames_after fir_taps r items xs ++ ps) framed
-          ∙ sym (ap (frames_after fir_taps r items) both ∙ frames-append fir_taps fir-near r free items xs ys held long);
+          ∙ sym (ap (frames_after fir_taps r items) both ∙ frames-joined fir_taps fir-near r free xs ys items held long);
       rest_unchanged = rw split (drop-put (done * size) (piece * size) c.args.output.now c.pieces.output out new sides fits put old.rest_unchanged);
       counted = ap (λ n. n + c.filter_piece-clips.result) old.counted ∙ ap (λ n. clips_after fir_taps r items xs + n) clipped
-          ∙ sym (ap (clips_after fir_taps r items) both ∙ clips-append fir_taps fir-near r free items xs ys held long);
+          ∙ sym (ap (clips_after fir_taps r items) both ∙ clips-joined fir_taps fir-near r free xs ys items held long);
       bound = omega (arith, old.bound, c.filter_piece-clips.ensures.bound);
       line = pushed ∙ sym (ap (λ ps. last_of free (items ++ ps)) both);
       full = omega (arith, ap length pushed, length-last free (items ++ (xs ++ ys)), length-append items (xs ++ ys), c.requires.full);

@@ -9,9 +9,12 @@ returns-then-exchange_frames g c =
     let delivered = c.exchange_frames.ensures in
     let both = delivered.when.0 is in
     record {
-      frames = group-frames c.args.self.now c.args.small.now c.args.line.now c.args.samples.now c.exchange_frames.new.frames c.args.count c.requires.sounds c.requires.one c.requires.capacity c.requires.channels both.0 both.1 (delivered.oldest is) (delivered.len ∙ c.requires.samples) c.one_echo_over.new.earlier (rw (delivered.came is) at c.one_echo_over.ensures.frame);
-      clips = group-clips c.args.self.now c.args.small.now c.args.line.now c.args.samples.now c.exchange_frames.new.frames c.args.count c.requires.sounds c.requires.one c.requires.capacity c.requires.channels both.0 both.1 (delivered.oldest is) (delivered.len ∙ c.requires.samples) c.one_echo_over.result (rw (delivered.came is) at c.one_echo_over.ensures.clips);
-      bound = first_of (search rules, grind (arith, common_steps));
+      frames = group-frames c.args.self.now c.args.small.now c.args.line.now c.args.samples.now c.exchange_frames.new.frames c.args.count c.requires.sounds c.requires.one c.requires.line.capacity c.requires.line.channels both.0 both.1 (delivered.oldest is) (delivered.len ∙ c.requires.samples) c.one_echo_over.new.earlier (rw (delivered.came is) at c.one_echo_over.ensures.frame);
+      clips = record {
+        counted = group-clips c.args.self.now c.args.small.now c.args.line.now c.args.samples.now c.exchange_frames.new.frames c.args.count c.requires.sounds c.requires.one c.requires.line.capacity c.requires.line.channels both.0 both.1 (delivered.oldest is) (delivered.len ∙ c.requires.samples) c.one_echo_over.result (rw (delivered.came is) at c.one_echo_over.ensures.clips);
+        bound = first_of (search rules, grind (arith, common_steps));
+        small = first_of (search rules, grind (arith, common_steps));
+      };
       line = first_of (search rules, grind (arith, common_steps));
       line_capacity = first_of (search rules, grind (arith, common_steps));
       line_channels = first_of (search rules, grind (arith, common_steps));

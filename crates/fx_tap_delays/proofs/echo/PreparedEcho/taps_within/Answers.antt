@@ -24,8 +24,11 @@ returns g c =
     let long : length c.add_piece.new.sums ≡ c.args.count * a.channels = c.add_piece.auto.sums ∙ length-take-le (length c.args.samples.now) (replicate g.row.PLACES (pos 0)) free ∙ c.requires.samples in
     record {
       frames = piece-frames a w sounds c.args.line.now.items coming c.args.count c.add_piece.new.sums many long value c.round_sums.new.out c.round_sums.ensures.samples;
-      clips = piece-clips a w sounds c.args.line.now.items coming c.args.count c.add_piece.new.sums many long value c.round_sums.result c.round_sums.ensures.clips;
-      bound = first_of (search rules, grind (arith, common_steps));
+      clips = record {
+        counted = piece-clips a w sounds c.args.line.now.items coming c.args.count c.add_piece.new.sums many long value c.round_sums.result c.round_sums.ensures.clips;
+        bound = first_of (search rules, grind (arith, common_steps));
+        small = first_of (search rules, grind (arith, common_steps));
+      };
       line = first_of (search rules, grind (arith, common_steps));
       line_capacity = first_of (search rules, grind (arith, common_steps));
       line_channels = first_of (search rules, grind (arith, common_steps));

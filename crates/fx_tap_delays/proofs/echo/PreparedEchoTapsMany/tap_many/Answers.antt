@@ -1,5 +1,6 @@
-use Rattle.std.proofs.Common.{◌≡◌, ◌+◌, ◌-◌, ◌*◌, ◌≤◌, ℕ, List, length, take, drop, ap, ◌∙◌, arith, map, ℤ}
+use Rattle.std.proofs.Common.{rules, ◌≡◌, ◌+◌, ◌-◌, ◌*◌, ◌≤◌, ℕ, List, length, take, drop, ap, ◌∙◌, arith, map, ℤ}
 use Rattle.std.proofs.Math.Nat.{mul-le-mul_left}
+use Rattle.std.proofs.lemmas.Grind.{common_steps}
 use Rattle.fx_fixed.specs.Extents.{largest}
 use Rattle.fx_tap_delays.specs.DelayExtents.{tap_delay}
 use Rattle.fx_frame_base.specs.Lists.{pieces}
@@ -35,13 +36,13 @@ pieces-preserved c =
     let within : done + n ≤ c.args.count = omega arith in
     let width : done * ch + n * ch - done * ch ≡ n * ch = omega arith in
     let free : c.args.count * ch ≤ length out = omega (arith, asked.output, c.pieces.auto.output) in
-    let long : largest (map tap_delay a.taps) ≤ start.capacity = let e = asked.capacity in omega arith in
+    let long : largest (map tap_delay a.taps) ≤ start.capacity = let e = asked.line.capacity in omega arith in
     let part : List ℤ = take (n * ch) (drop (done * ch) c.args.input.now) in
     let more = group-read ch done n c.args.count within c.args.input.now asked.input in
     let ensured = rw (← c.self.view_is, width) at c.tap_piece-clips.ensures in
     let kept = rw width at c.tap_piece-clips.auto.out in
     let pushes = rw width at c.push_frames.ensures.items in
-    let lined : line.channels ≡ ch = old.made.line_channels ∙ asked.channels in
+    let lined : line.channels ≡ ch = old.made.line_channels ∙ asked.line.channels in
     let held = c.len-held.ensures.line.within in
     let bound : n * ch ≤ n * 16 = mul-le-mul_left n c.self.invariant.0.bound in
     rw (← c.self.view_is, width)
@@ -51,3 +52,6 @@ pieces-preserved c =
       counted = counted-more echo_taps taps-near a start line done (done + n) c.args.input.now c.args.output.now out (pieces ch n part) held long more old.made c.pieces.clips c.tap_piece-clips.result old.counted ensured.clips;
       bound = omega (arith, old.bound, ensured.bound, bound);
     }
+
+pub returns-clause-clips : goal.returns-clause-clips
+returns-clause-clips c = record { counted = first_of (search rules, grind (arith, common_steps)); bound = first_of (search rules, grind (arith, common_steps)); small = first_of (search rules, grind (arith, common_steps)) }

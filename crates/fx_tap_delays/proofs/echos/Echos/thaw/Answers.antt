@@ -12,20 +12,15 @@ returns-then-ended-gt1-clause-thawed c =
 pub invariant_of-result : goal.invariant_of-result
 invariant_of-result c =
     let st = c.in_ok-lines.ensures.found in
-    rw c.in-Ok.ensures (
+    rw (c.in-Ok.ensures, c.restored.ensures) (
       record {
         arguments = record { some = c.requires.channels.0; bound = c.requires.channels.1; gain_in = c.requires.gain_in; taps_max = c.requires.taps.1; delays = c.requires.delays; decays = c.requires.decays };
         whole = c.requires.lines;
         as_many = st.series.as_many;
         lines = rw st.pending_count_is st.series.lines_are;
         counted = search rules;
-        bound = search rules;
         not_ended = search rules;
-        clips_max = search rules;
-        pending_max = search rules;
-        idle = search rules;
-        over = search rules;
-        fits = st.held;
+        core = record { bound = search rules; clips_max = search rules; pending_max = search rules; idle = search rules; over = search rules; fits = st.held };
       },
       search rules,
     )
@@ -36,6 +31,7 @@ returns-clause-frozen c =
     let eight : length c.args.numbers.now ≡ 8 = search rules in
     let all : slice_index_or c.args.numbers.now 4 0 ≡ length c.args.frames.now = omega arith in
     let flag = flag-back (slice_index_or c.args.numbers.now 2 0) c.if-ended-gt1.false in
+    rw c.restored.ensures
     record {
       stored = st.stored;
       counted = rw (flag, ← st.stored, ← all, st.pending_count_is) (eight-numbers c.args.numbers.now eight);
@@ -45,5 +41,5 @@ pub returns-clause-thawed : goal.returns-clause-thawed
 returns-clause-thawed c =
     λ s is made froze.
     let series = series-is s _ c.args.frames.now c.args.numbers.now is made froze in
-    let same = c.in_ok-lines.ensures.only s.lines s.pending series in
-    rw c.in-Ok.ensures (thawed-is s _ c.args.frames.now c.args.numbers.now is made froze _ _ same.0 same.1)
+    let same = c.in_ok-lines.ensures.only s.lines s.core.pending series in
+    rw (c.in-Ok.ensures, c.restored.ensures) (thawed-is s _ c.args.frames.now c.args.numbers.now is made froze _ _ same.0 same.1)

@@ -9,13 +9,13 @@ use Rattle.fx_frame_base.proofs.Puts.{written_back}
 use Rattle.fx_tap_delays.proofs.echos.EchosFeeds.pass_frames.Goals.{After-echo_frames-clips}
 use Rattle.fx_tap_delays.proofs.echos.EchosFeeds.pass_frames.Goals as goal
 
-none : (c : After-echo_frames-clips) → c.self.inside.pending ≡ None
-none c = dry-pending c.self.inside.pending c.self.inside.tail (rw (← c.self.view_is) at c.requires.dry)
+none : (c : After-echo_frames-clips) → c.self.inside.core.pending ≡ None
+none c = dry-pending c.self.inside.core.pending c.self.inside.tail (rw (← c.self.view_is) at c.requires.dry)
 
-running : (c : After-echo_frames-clips) → c.self.inside.ended ≡ false
+running : (c : After-echo_frames-clips) → c.self.inside.core.ended ≡ false
 running c = rw (← c.self.view_is) at c.requires.not_ended
 
-limit : (c : After-echo_frames-clips) → c.self.inside.taken + c.args.count ≤ 2 ^ 56
+limit : (c : After-echo_frames-clips) → c.self.inside.core.taken + c.args.count ≤ 2 ^ 56
 limit c = rw (← c.self.view_is) at c.requires.below_limit
 
 many : (c : After-echo_frames-clips) → length c.echo_frames-clips.new.lines ≡ length c.self.inside.lines.items
@@ -38,18 +38,18 @@ echo_frames-clips-requires-clause-bound c =
 pub echo_frames-clips-requires-clause-samples : goal.echo_frames-clips-requires-clause-samples
 echo_frames-clips-requires-clause-samples c = rw (← c.self.view_is) at c.requires.samples
 
-pub overflow_add-self : goal.overflow_add-self
-overflow_add-self c =
-    let after = (goal.at.overflow_add-self c).After-echo_frames-clips in
+pub pass-requires-clause-clips : goal.pass-requires-clause-clips
+pass-requires-clause-clips c =
+    let after = (goal.at.pass-requires-clause-clips c).After-echo_frames-clips in
     let counted = rw (none after, running after) at c.self.invariant.0.counted in
-    omega (arith, counted, limit after, c.self.invariant.0.clips_max, c.self.invariant.0.bound, c.echo_frames-clips.ensures.bound)
+    omega (arith, counted, limit after, c.self.invariant.0.core.clips_max, c.self.invariant.0.core.bound, c.echo_frames-clips.ensures.bound)
 
-pub overflow_add-self-2 : goal.overflow_add-self-2
-overflow_add-self-2 c = omega (arith, limit (goal.at.overflow_add-self-2 c).After-echo_frames-clips)
+pub pass-requires-clause-taken : goal.pass-requires-clause-taken
+pass-requires-clause-taken c = omega (arith, limit (goal.at.pass-requires-clause-taken c).After-echo_frames-clips)
 
-pub overflow_add-self-3 : goal.overflow_add-self-3
-overflow_add-self-3 c =
-    let after = (goal.at.overflow_add-self-3 c).After-echo_frames-clips in
+pub pass-requires-clause-given : goal.pass-requires-clause-given
+pass-requires-clause-given c =
+    let after = (goal.at.pass-requires-clause-given c).After-echo_frames-clips in
     let counted = rw (none after, running after) at c.self.invariant.0.counted in
     omega (arith, counted, limit after)
 
@@ -57,7 +57,7 @@ pub invariant_of-self : goal.invariant_of-self
 invariant_of-self c =
     let s = c.self.inside in
     let after = (goal.at.invariant_of-self c).After-echo_frames-clips in
-    rw (written_back s.lines.items c.echo_frames-clips.new.lines s.lines.len s.lines.ok.0 (many after)) ((rw (← c.self.view_is) at (block after)), c.self.invariant.1)
+    rw (written_back s.lines.items c.echo_frames-clips.new.lines s.lines.len s.lines.ok.0 (many after), c.pass.ensures) ((rw (← c.self.view_is) at (block after)), c.self.invariant.1)
 
 pub returns-clause-through : goal.returns-clause-through
 returns-clause-through c =
@@ -66,7 +66,7 @@ returns-clause-through c =
     let lines = rw c.deref_mut.ensures.value at c.echo_frames-clips.ensures.lines in
     let frames = rw (c.deref_mut.ensures.value, c.deref.ensures.value) at c.echo_frames-clips.ensures.frames in
     let clips = rw (c.deref_mut.ensures.value, c.deref.ensures.value) at c.echo_frames-clips.ensures.clips in
-    rw (← c.self.view_is, written_back s.lines.items c.echo_frames-clips.new.lines s.lines.len s.lines.ok.0 (many after))
+    rw (← c.self.view_is, written_back s.lines.items c.echo_frames-clips.new.lines s.lines.len s.lines.ok.0 (many after), c.pass.ensures)
     (block-through _ c.echo_frames-clips.new.lines c.self.invariant.0 (none after) (running after) c.args.count c.echo_frames-clips.result c.args.samples.now c.echo_frames-clips.new.samples frames clips lines)
 
 pub returns-clause-lined : goal.returns-clause-lined
@@ -74,4 +74,4 @@ returns-clause-lined c =
     let s = c.self.inside in
     let after = (goal.at.returns-clause-lined c).After-echo_frames-clips in
     let within = frames-late _ (rw (← c.self.view_is) at (block after)) in
-    rw (written_back s.lines.items c.echo_frames-clips.new.lines s.lines.len s.lines.ok.0 (many after), none after) (simp append-nil (omega (arith, within)))
+    rw (written_back s.lines.items c.echo_frames-clips.new.lines s.lines.len s.lines.ok.0 (many after), c.pass.ensures, none after) (simp append-nil (omega (arith, within)))

@@ -1,8 +1,9 @@
-use Rattle.std.proofs.Common.{◌≡◌, ◌<◌, ◌^◌, ◌∙◌, ap, length, arith}
+use Rattle.std.proofs.Common.{rules, ◌≡◌, ◌<◌, ◌^◌, ◌∙◌, ap, length, arith, None}
 use Rattle.fx_frame_base.specs.Frame.{silence}
 use Rattle.fx_tap_delays.specs.EchosState.{lines_after}
 use Rattle.fx_tap_delays.proofs.EchosSeries.{Small, small-silence}
 use Rattle.fx_tap_delays.proofs.EchosLaws.{Gave-silence, IsEchos-drained, length-after}
+use Rattle.fx_frame_base.proofs.Flags.{none-of}
 use Rattle.fx_frame_base.proofs.Puts.{written_back}
 use Rattle.fx_tap_delays.proofs.echos.EchosStage.give.Goals.{After-echoed-out}
 use Rattle.fx_tap_delays.proofs.echos.EchosStage.give.Goals as goal
@@ -17,17 +18,19 @@ pub invariant_of-self-2 : goal.invariant_of-self-2
 invariant_of-self-2 c =
     let s = c.self.inside in
     let after = (goal.at.invariant_of-self-2 c).After-echoed-out in
+    let none : s.core.pending ≡ None = none-of s.core.pending (search rules) in
     let some : 0 < s.tail = omega arith in
     let small : Small (2 ^ 31) c.silence-silent_frame.result = rw c.silence-silent_frame.ensures (small-silence (2 ^ 31) s.channels) in
-    rw (written_back s.lines.items c.echoed-out.new.lines s.lines.len s.lines.ok.0 (many after))
-    (IsEchos-drained _ c.echoed-out.new.lines c.silence-silent_frame.result c.echoed-out.result.1 c.self.invariant.0 c.in_default.is some small (series after) c.echoed-out.ensures.bound, c.self.invariant.1)
+    rw (written_back s.lines.items c.echoed-out.new.lines s.lines.len s.lines.ok.0 (many after), c.give_made.ensures)
+    (IsEchos-drained _ c.echoed-out.new.lines c.silence-silent_frame.result c.echoed-out.result.1 c.self.invariant.0 none some small (series after) c.echoed-out.ensures.bound, c.self.invariant.1)
 
 pub returns : goal.returns
 returns c =
     let s = c.self.inside in
     let after = (goal.at.returns c).After-echoed-out in
+    let none : s.core.pending ≡ None = none-of s.core.pending (search rules) in
     let some : 0 < s.tail = omega arith in
     let samples = rw (c.deref_mut.ensures.value, c.deref.ensures.value) at c.echoed-out.ensures.frame in
     let clips = rw (c.deref_mut.ensures.value, c.deref.ensures.value) at c.echoed-out.ensures.clips in
-    rw (← c.self.view_is, written_back s.lines.items c.echoed-out.new.lines s.lines.len s.lines.ok.0 (many after))
-    (Gave-silence _ c.echoed-out.new.lines c.silence-silent_frame.result c.echoed-out.result.0 c.echoed-out.result.1 c.self.invariant.0 c.in_default.is some c.silence-silent_frame.ensures (series after) samples clips c.echoed-out.ensures.fits.1)
+    rw (← c.self.view_is, written_back s.lines.items c.echoed-out.new.lines s.lines.len s.lines.ok.0 (many after), c.give_made.ensures)
+    (Gave-silence _ c.echoed-out.new.lines c.silence-silent_frame.result c.echoed-out.result.0 c.echoed-out.result.1 c.self.invariant.0 none some c.silence-silent_frame.ensures (series after) samples clips c.echoed-out.ensures.fits.1)

@@ -15,14 +15,14 @@ pub overflow_add-result : goal.overflow_add-result
 overflow_add-result c =
     let bound = frames-late _ c.self.invariant.0 in
     let whole = c.self.invariant.0.whole in
-    let one = byte-le c.is_some.result in
+    let one = byte-le c.is_pending.result in
     let held = c.held_in.ensures ∙ ap (λ l. length (frames_of_lines l)) c.deref.ensures.value in
     omega (arith, bound, whole, one, held, c.from.ensures)
 
 pub returns-clause-within : goal.returns-clause-within
 returns-clause-within c =
     let bound = frames-late _ c.self.invariant.0 in
-    let one = byte-le c.is_some.result in
+    let one = byte-le c.is_pending.result in
     let held = c.held_in.ensures ∙ ap (λ l. length (frames_of_lines l)) c.deref.ensures.value in
     let maximum : c.held_in.result + c.from.result ≤ sum_of_delays c.self.inside.taps.items + 1 = omega (arith, bound, one, held, c.from.ensures) in
     rw (← c.self.view_is) maximum

@@ -18,6 +18,7 @@ returns-clause-frozen g c =
     let n : AreTapCounts c.args.reach c.max_clips-maximum.result (length c.args.frames.now) (by_name c.args.numbers.now) = c.are_counts.ensures.0 yes in
     let eight : length c.args.numbers.now ≡ 8 = search rules in
     let flag = flag-back (slice_index_or c.args.numbers.now 2 0) n.flag in
+    rw c.restored.ensures
     record {
       stored = st.stored;
       counted = rw (flag, ← st.stored, ← n.all, st.pending_count_is) (eight-numbers c.args.numbers.now eight);
@@ -26,15 +27,15 @@ returns-clause-frozen g c =
 pub returns-clause-thawed : goal.returns-clause-thawed
 returns-clause-thawed g c =
     λ s is same freezes.
-    let found = c.in-Ok.ensures.only s.line s.pending (record {
+    let found = c.in-Ok.ensures.only s.line s.core.pending (record {
       lined = is.line;
       channels_are = is.channels ∙ ap g.T.Tapping.taps.channels same ∙ sym c.channels-channels.ensures.value;
       capacity_is = is.capacity ∙ ap g.T.Tapping.taps.reach same ∙ sym c.requires.reach;
-      held = rw (c.channels-channels.ensures.value, ← same) is.fits;
+      held = rw (c.channels-channels.ensures.value, ← same) is.core.fits;
       pending_count_is = sym (ap (λ l. slice_index_or l 6 0) freezes.counted);
       stored = freezes.stored;
     }) in
-    rw (found.0, found.1, freezes.counted, ← same, flag-of s.ended) refl
+    rw (c.restored.ensures, found.0, found.1, freezes.counted, ← same, flag-of s.core.ended) refl
 
 pub invariant_of-result : goal.invariant_of-result
 invariant_of-result g c =
@@ -44,17 +45,20 @@ invariant_of-result g c =
     let all = ap length st.stored ∙ length-append c.in-Ok.stored.0.items (option_to_list c.in-Ok.stored.1) in
     let ended = slice_index_or c.args.numbers.now 2 0 in
     let held : length c.in-Ok.stored.0.items ≡ min (slice_index_or c.args.numbers.now 1 0 + slice_index_or c.args.numbers.now 6 0) c.args.reach = omega (arith, all, st.pending_count_is, n.all, n.held) in
+    rw c.restored.ensures
     record {
+      core = record {
+        bound = n.bound;
+        clips_max = rw (← c.max_clips-maximum.ensures) n.clips_max;
+        pending_max = rw (← c.max_clips-maximum.ensures) n.pending_max;
+        idle = λ z. n.idle (omega (arith, z, st.pending_count_is));
+        over = λ e. let some : 1 ≤ ended = grind (arith, nat_tests) in omega (arith, st.pending_count_is, n.over some);
+        fits = rw (← c.channels-channels.ensures.value) st.held;
+      };
       line = st.lined;
       channels = st.channels_are ∙ c.channels-channels.ensures.value;
       capacity = st.capacity_is ∙ c.requires.reach;
       counted = rw (st.pending_count_is, st.capacity_is) (n.counted ∙ ap (λ k. slice_index_or c.args.numbers.now 0 0 + k) (times-flag ended c.args.reach n.flag));
       held = rw (st.pending_count_is, st.capacity_is) held;
-      idle = λ z. n.idle (omega (arith, z, st.pending_count_is));
-      over = λ e. let some : 1 ≤ ended = grind (arith, nat_tests) in omega (arith, st.pending_count_is, n.over some);
-      bound = n.bound;
       not_ended = λ e. n.not_ended (grind (arith, nat_tests, n.flag));
-      clips_max = rw (← c.max_clips-maximum.ensures) n.clips_max;
-      pending_max = rw (← c.max_clips-maximum.ensures) n.pending_max;
-      fits = rw (← c.channels-channels.ensures.value) st.held;
     }

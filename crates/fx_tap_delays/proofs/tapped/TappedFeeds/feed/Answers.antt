@@ -13,36 +13,26 @@ use Rattle.fx_tap_delays.proofs.tapped.TappedFeeds.feed.Goals as goal
 frames : (g : given.Over) (c : After-min-count g) →
     let s = c.self-2.inside in
     let size = c.min-count.result * g.T.Tapping.taps.channels s.arguments in
-    (size ≤ length c.args.input.now) × (size ≤ length c.args.output.now) × (s.taken + c.min-count.result ≤ 2 ^ 56)
+    (size ≤ length c.args.input.now) × (size ≤ length c.args.output.now) × (s.core.taken + c.min-count.result ≤ 2 ^ 56)
 frames g c =
     let channels : ℕ = c.channels-channels.result in
     let both = rw c.channels-channels.ensures.value at (both-have (length c.args.input.now) (length c.args.output.now) channels channels c.min-count.result c.min-count.ensures) in
     (both.0, both.1, (rw (← c.self-2.view_is) at c.requires.below_limit) c.min-count.result both.0)
 
-pub overflow_add-self : goal.overflow_add-self
-overflow_add-self g c =
-    let s = c.self-2.inside in
-    let maximum : ℕ = g.T.Tapping.taps.max_clips s.arguments in
-    let over : s.ended ≡ false = search rules in
-    let counted = rw over at c.self-2.invariant.counted in
-    let bound : s.given ≤ 2 ^ 56 = omega (arith, counted, c.self-2.invariant.bound) in
-    let all : s.given * maximum ≤ 2 ^ 56 * 16 = mul-le-mul bound (g.met.T.Tapping.clips_max s.arguments) in
-    let (read, free, limit) = frames g (goal.at.overflow_add-self g c).After-min-count in
-    omega (arith, all, limit, c.self-2.invariant.clips_max, c.tap_many.ensures.small)
-
 pub invariant_of-self : goal.invariant_of-self
 invariant_of-self g c =
     let s = c.self-2.inside in
-    let none : s.pending ≡ None = none-of s.pending (search rules) in
+    let none : s.core.pending ≡ None = none-of s.core.pending (search rules) in
     let (read, free, limit) = frames g (goal.at.invariant_of-self g c).After-min-count in
-    let ensured = c.tap_many.ensures in
-    IsTapState-block g.T.Tapping.taps _ c.tap_many.new.line c.min-count.result c.tap_many.result _ c.self-2.invariant none (search rules) limit (length-pieces (g.T.Tapping.taps.channels s.arguments) c.min-count.result c.args.input.now) c.len-held.ensures.line ensured.line ensured.line_capacity ensured.line_channels ensured.bound
+    let ensured = c.tap_many-clips.ensures in
+    rw c.pass.ensures
+    (IsTapState-block g.T.Tapping.taps _ c.tap_many-clips.new.line c.min-count.result c.tap_many-clips.result _ c.self-2.invariant none (search rules) limit (length-pieces (g.T.Tapping.taps.channels s.arguments) c.min-count.result c.args.input.now) c.len-held.ensures.line ensured.line ensured.line_capacity ensured.line_channels ensured.clips.bound)
 
 pub feed_by_frames-requires : goal.feed_by_frames-requires
 feed_by_frames-requires g c = record { channels = c.requires.channels; below_limit = c.requires.below_limit }
 
-pub returns-then-is_some : goal.returns-then-is_some
-returns-then-is_some g c =
+pub returns-then-is_pending : goal.returns-then-is_pending
+returns-then-is_pending g c =
     let fed = c.feed_by_frames.ensures in
     record { fed = fed.fed; read = fed.read; written = fed.written; rest_unchanged = fed.rest_unchanged; dry = fed.dry; used = fed.used; free = fed.free }
 
@@ -52,44 +42,45 @@ nonzero_div-input g c = omega (arith, c.channels-channels.ensures.some.0)
 pub nonzero_div-output : goal.nonzero_div-output
 nonzero_div-output g c = omega (arith, c.channels-channels.ensures.some.0)
 
-pub tap_many-requires : goal.tap_many-requires
-tap_many-requires g c =
-    let (read, free, limit) = frames g (goal.at.tap_many-requires g c).After-min-count in
-    record { channels = c.self-2.invariant.channels; capacity = c.self-2.invariant.capacity; bound = omega (arith, limit); input = read; output = free }
+pub tap_many-clips-requires : goal.tap_many-clips-requires
+tap_many-clips-requires g c =
+    let (read, free, limit) = frames g (goal.at.tap_many-clips-requires g c).After-min-count in
+    record { line = record { channels = c.self-2.invariant.channels; capacity = c.self-2.invariant.capacity }; bound = omega (arith, limit); input = read; output = free }
 
-pub overflow_add-self-2 : goal.overflow_add-self-2
-overflow_add-self-2 g c =
-    let (read, free, limit) = frames g (goal.at.overflow_add-self-2 g c).After-min-count in
-    omega (arith, limit)
-
-pub overflow_add-self-3 : goal.overflow_add-self-3
-overflow_add-self-3 g c =
-    let over : c.self-2.inside.ended ≡ false = search rules in
+pub pass-requires : goal.pass-requires
+pass-requires g c =
+    let s = c.self-2.inside in
+    let over : s.core.ended ≡ false = search rules in
     let counted = rw over at c.self-2.invariant.counted in
-    let (read, free, limit) = frames g (goal.at.overflow_add-self-3 g c).After-min-count in
-    omega (arith, counted, limit)
+    let bound : s.core.given ≤ 2 ^ 56 = omega (arith, counted, c.self-2.invariant.core.bound) in
+    let all = mul-le-mul bound (g.met.T.Tapping.clips_max s.arguments) in
+    let (read, free, limit) = frames g (goal.at.pass-requires g c).After-min-count in
+    record {
+      taken = omega (arith, limit);
+      given = omega (arith, counted, limit);
+      clips = omega (arith, all, limit, c.self-2.invariant.core.clips_max, c.tap_many-clips.ensures.clips.small);
+    }
 
 pub returns : goal.returns
 returns g c =
     let s = c.self-2.inside in
     let is = c.self-2.invariant in
-    let none : s.pending ≡ None = none-of s.pending (search rules) in
-    let over : s.ended ≡ false = search rules in
-    let zero : s.pending_clips ≡ 0 = is.idle (rw none refl) in
+    let none : s.core.pending ≡ None = none-of s.core.pending (search rules) in
+    let over : s.core.ended ≡ false = search rules in
     let no_tail : s.tail ≡ 0 = is.not_ended over in
     let counted = rw (none, over) at is.counted in
-    let even : s.given ≡ s.taken = omega (arith, counted, no_tail) in
+    let even : s.core.given ≡ s.core.taken = omega (arith, counted, no_tail) in
     let (read, free, limit) = frames g (goal.at.returns g c).After-min-count in
-    let out : c.min-count.result * g.T.Tapping.taps.channels s.arguments ≤ length c.tap_many.new.output = omega (arith, free, c.tap_many.auto.output) in
+    let out : c.min-count.result * g.T.Tapping.taps.channels s.arguments ≤ length c.tap_many-clips.new.output = omega (arith, free, c.tap_many-clips.auto.output) in
     let some : 0 < c.channels-channels.result = omega (arith, c.channels-channels.ensures.some.0) in
-    let ensured = c.tap_many.ensures in
-    rw (← c.self-2.view_is)
+    let ensured = c.tap_many-clips.ensures in
+    rw (← c.self-2.view_is, c.pass.ensures)
     record {
-      fed = block-fed g.T.Tapping.taps g.met.T.Tapping.near s.arguments _ c.tap_many.new.line c.min-count.result c.tap_many.result c.args.input.now c.tap_many.new.output refl none zero no_tail over even is.capacity is.line.within out ensured.frames ensured.clips ensured.line ensured.line_capacity ensured.line_channels;
+      fed = block-fed g.T.Tapping.taps g.met.T.Tapping.near s.arguments _ c.tap_many-clips.new.line c.min-count.result c.tap_many-clips.result c.args.input.now c.tap_many-clips.new.output refl is none over out ensured.frames ensured.clips.counted ensured.line ensured.line_capacity ensured.line_channels;
       read = read;
       written = out;
       rest_unchanged = ensured.rest_unchanged;
       dry = λ space. rw (none, no_tail) refl;
-      used = rw (← c.channels-channels.ensures.value) (λ space going spent. no-more (length c.args.input.now) (length c.args.output.now) c.channels-channels.result c.channels-channels.result c.min-count.result some some c.min-count.ensures (omega (arith, space, c.tap_many.auto.output)));
-      free = λ n bound. free-grows (s.taken + n - s.given) c.min-count.result (g.T.Tapping.taps.channels s.arguments) (length c.args.output.now) (omega (arith, even, bound)) free;
+      used = rw (← c.channels-channels.ensures.value) (λ space going spent. no-more (length c.args.input.now) (length c.args.output.now) c.channels-channels.result c.channels-channels.result c.min-count.result some some c.min-count.ensures (omega (arith, space, c.tap_many-clips.auto.output)));
+      free = λ n bound. free-grows (s.core.taken + n - s.core.given) c.min-count.result (g.T.Tapping.taps.channels s.arguments) (length c.args.output.now) (omega (arith, even, bound)) free;
     }

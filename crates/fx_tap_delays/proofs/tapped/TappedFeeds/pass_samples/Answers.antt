@@ -8,27 +8,22 @@ invariant_of-self g c =
     let s = c.self.inside in
     let taps = g.T.Tapping.taps in
     let is = c.self.invariant in
-    let none : s.pending ≡ None = dry-pending s.pending s.tail (rw (← c.self.view_is) at c.requires.dry) in
-    let over : s.ended ≡ false = rw (← c.self.view_is) at c.requires.not_ended in
+    let none : s.core.pending ≡ None = dry-pending s.core.pending s.tail (rw (← c.self.view_is) at c.requires.dry) in
+    let over : s.core.ended ≡ false = rw (← c.self.view_is) at c.requires.not_ended in
     let limit = rw (← c.self.view_is) at c.requires.below_limit in
-    let bound : s.taken + 1 ≤ 2 ^ 56 = omega (arith, limit) in
+    let bound : s.core.taken + 1 ≤ 2 ^ 56 = omega (arith, limit) in
     let little : c.tap_over-clips.result ≤ 1 * taps.max_clips s.arguments = omega (arith, c.tap_over-clips.ensures.bound) in
     let delivered = c.tap_over-clips.ensures in
-    IsTapState-block taps _ c.tap_over-clips.new.line 1 c.tap_over-clips.result (c.args.samples.now ∷ []) is none over bound refl c.len-held.ensures.line delivered.items delivered.line_capacity delivered.line_channels little
+    rw c.pass.ensures
+    (IsTapState-block taps _ c.tap_over-clips.new.line 1 c.tap_over-clips.result (c.args.samples.now ∷ []) is none over bound refl c.len-held.ensures.line delivered.items delivered.line_capacity delivered.line_channels little)
 
 pub returns-clause-passed : goal.returns-clause-passed
 returns-clause-passed g c =
     let s = c.self.inside in
-    let taps = g.T.Tapping.taps in
-    let is = c.self.invariant in
-    let none : s.pending ≡ None = dry-pending s.pending s.tail (rw (← c.self.view_is) at c.requires.dry) in
-    let over : s.ended ≡ false = rw (← c.self.view_is) at c.requires.not_ended in
-    let zero : s.pending_clips ≡ 0 = is.idle (rw none refl) in
-    let no_tail : s.tail ≡ 0 = is.not_ended over in
-    let counted = rw (none, over) at is.counted in
-    let even : s.given ≡ s.taken = omega (arith, counted, no_tail) in
+    let none : s.core.pending ≡ None = dry-pending s.core.pending s.tail (rw (← c.self.view_is) at c.requires.dry) in
+    let over : s.core.ended ≡ false = rw (← c.self.view_is) at c.requires.not_ended in
     let width = rw (← c.self.view_is) at c.requires.channels in
     let delivered = c.tap_over-clips.ensures in
-    rw (← c.self.view_is)
-    (frame-passed taps g.met.T.Tapping.near s.arguments (record { arguments = s.arguments; line = s.line; pending = s.pending; pending_clips = s.pending_clips; tail = s.tail; taken = s.taken; given = s.given; clips = s.clips; ended = s.ended }) c.tap_over-clips.new.line c.args.samples.now c.tap_over-clips.new.samples c.tap_over-clips.result
-    refl none zero no_tail over even is.capacity is.line.within (c.tap_over-clips.auto.samples ∙ width) delivered.frame delivered.clips delivered.items delivered.line_capacity delivered.line_channels)
+    rw (← c.self.view_is, c.pass.ensures)
+    (frame-passed g.T.Tapping.taps g.met.T.Tapping.near s.arguments _ c.tap_over-clips.new.line c.args.samples.now c.tap_over-clips.new.samples c.tap_over-clips.result
+    refl c.self.invariant none over (c.tap_over-clips.auto.samples ∙ width) delivered.frame delivered.clips delivered.items delivered.line_capacity delivered.line_channels)

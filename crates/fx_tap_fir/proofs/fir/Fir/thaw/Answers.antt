@@ -16,7 +16,7 @@ returns-then-not-are_counts-clause-thawed c s is made froze =
 pub returns-in-Err-clause-thawed : goal.returns-in-Err-clause-thawed
 returns-in-Err-clause-thawed c s is made froze =
     let stored = stored-is s c.args.channels c.args.coefficients.now c.args.frames.now c.args.numbers.now is made froze in
-    elim c.in-Err.ensures.refused [ inl e ↦ e | inr e ↦ absurd (e.1 s.line s.pending stored) ]
+    elim c.in-Err.ensures.refused [ inl e ↦ e | inr e ↦ absurd (e.1 s.line s.core.pending stored) ]
 
 pub returns-clause-frozen : goal.returns-clause-frozen
 returns-clause-frozen c =
@@ -25,6 +25,7 @@ returns-clause-frozen c =
     let n : AreFirCounts (length c.args.coefficients.now) (length c.args.frames.now) (by_name c.args.numbers.now) = c.are_counts.ensures.0 yes in
     let eight : length c.args.numbers.now ≡ 8 = search rules in
     let flag = flag-back (slice_index_or c.args.numbers.now 2 0) n.flag in
+    rw c.restored.ensures
     record {
       stored = st.stored;
       counted = rw (flag, ← st.stored, ← n.all, st.pending_count_is) (eight-numbers c.args.numbers.now eight);
@@ -33,8 +34,9 @@ returns-clause-frozen c =
 pub returns-clause-thawed : goal.returns-clause-thawed
 returns-clause-thawed c s is made froze =
     let stored = stored-is s c.args.channels c.args.coefficients.now c.args.frames.now c.args.numbers.now is made froze in
-    let same = c.in-Ok.ensures.only s.line s.pending stored in
-    thawed-is s c.args.channels c.args.coefficients.now _ _ _ c.args.numbers.now made froze.counted same.0 same.1 c.in-Ok-of.ensures.value
+    let same = c.in-Ok.ensures.only s.line s.core.pending stored in
+    rw c.restored.ensures
+    (thawed-is s c.args.channels c.args.coefficients.now _ _ _ c.args.numbers.now made froze.counted same.0 same.1 c.in-Ok-of.ensures.value)
 
 pub invariant_of-result : goal.invariant_of-result
 invariant_of-result c =
@@ -46,6 +48,7 @@ invariant_of-result c =
     let size : length c.in-Ok-of.kernel ≡ length c.args.coefficients.now = ap length c.in-Ok-of.ensures.value ∙ length-reverse c.args.coefficients.now in
     let ended = slice_index_or c.args.numbers.now 2 0 in
     let made = slice_index_or c.args.numbers.now 1 0 + slice_index_or c.args.numbers.now 6 0 + slice_index_or c.args.numbers.now 5 0 in
+    rw c.restored.ensures
     record {
       line = st.lined;
       channels = st.channels_are;
@@ -57,10 +60,12 @@ invariant_of-result c =
       tail_held = omega (arith, lined, n.tail_held, n.held);
       tail_bound = omega (arith, size, n.tail_bound);
       not_ended = λ e. n.not_ended (grind (arith, nat_tests, n.flag));
-      bound = n.bound;
-      clips_max = n.clips_max;
-      pending_max = n.pending_max;
-      idle = λ z. n.idle (omega (arith, z, st.pending_count_is));
-      over = λ e. let some : 1 ≤ ended = grind (arith, nat_tests) in omega (arith, st.pending_count_is, n.over some);
-      fits = st.held;
+      core = record {
+        bound = n.bound;
+        clips_max = omega (arith, n.clips_max);
+        pending_max = n.pending_max;
+        idle = λ z. n.idle (omega (arith, z, st.pending_count_is));
+        over = λ e. let some : 1 ≤ ended = grind (arith, nat_tests) in omega (arith, st.pending_count_is, n.over some);
+        fits = st.held;
+      };
     }

@@ -11,9 +11,9 @@ returns-clause-passed c =
     let s = c.self.inside in
     let is = c.self.invariant in
     let xs : List ℤ = c.args.samples.now in
-    let none : s.pending ≡ None = dry-pending s.pending s.tail (rw (← c.self.view_is) at c.requires.dry) in
-    let over : s.ended ≡ false = rw (← c.self.view_is) at c.requires.not_ended in
-    let zero : s.pending_clips ≡ 0 = is.idle (rw none refl) in
+    let none : s.core.pending ≡ None = dry-pending s.core.pending s.tail (rw (← c.self.view_is) at c.requires.dry) in
+    let over : s.core.ended ≡ false = rw (← c.self.view_is) at c.requires.not_ended in
+    let zero : s.core.pending_clips ≡ 0 = is.core.idle (rw none refl) in
     let no_tail : s.tail ≡ 0 = is.not_ended over in
     let counted = rw (none, over) at is.counted in
     let same = length-reverse s.kernel in
@@ -21,13 +21,13 @@ returns-clause-passed c =
     let free = is.capacity in
     let late : centre (length s.kernel) ≤ length s.line.items = omega arith in
     let due : centre (length (reverse s.kernel)) ≤ length s.line.items = rw same late in
-    let even : s.given + centre (length (reverse s.kernel)) ≡ s.taken = rw same (omega (arith, counted, no_tail, held, late, free)) in
+    let even : s.core.given + centre (length (reverse s.kernel)) ≡ s.core.taken = rw same (omega (arith, counted, no_tail, held, late, free)) in
     let places : s.line.capacity + 1 ≡ length (reverse s.kernel) = rw same free in
     let whole : c.frame_at-came.result ≡ xs = c.frame_at-came.ensures.frame ∙ take_all (length xs) xs (omega arith) in
     let made = rw (whole, c.len-held.ensures.count) at c.filtered_into-clips.ensures in
     let pushed = rw whole at c.push-2.ensures in
-    rw (← c.self.view_is)
-    (frame-passed (record { channels = s.channels; backwards = s.kernel; line = s.line; pending = s.pending; pending_clips = s.pending_clips; tail = s.tail; taken = s.taken; given = s.given; clips = s.clips; ended = s.ended }) c.push-2.new.self xs c.filtered_into-clips.new.out c.filtered_into-clips.result
+    rw (← c.self.view_is, c.pass.ensures)
+    (frame-passed (record { channels = s.channels; backwards = s.kernel; line = s.line; core = s.core; tail = s.tail }) c.push-2.new.self xs c.filtered_into-clips.new.out c.filtered_into-clips.result
     none zero no_tail over even places is.line.within due made.frame made.clips pushed.items pushed.capacity pushed.channels)
 
 pub filtered_into-clips-requires-clause-end : goal.filtered_into-clips-requires-clause-end

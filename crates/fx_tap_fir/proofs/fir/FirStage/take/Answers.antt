@@ -8,5 +8,5 @@ returns c =
     let due : centre (length c.self.inside.kernel) ≤ length c.self.inside.line.items = omega arith in
     let samples = rw c.len-held.ensures.count at c.filtered_frame-out.ensures.frame in
     let clips = rw c.len-held.ensures.count at c.filtered_frame-out.ensures.clips in
-    rw (← c.self.view_is)
-    (Took-due _ _ c.args.frame c.filtered_frame-out.result.0 c.filtered_frame-out.result.1 c.self.invariant (rw (← c.self.view_is) at c.requires.dry) (rw (← c.self.view_is) at c.requires.not_ended) due samples clips c.push-self-inside.ensures.items)
+    rw (← c.self.view_is, c.offer.ensures)
+    (Took-due _ _ c.args.frame c.filtered_frame-out.result.0 c.filtered_frame-out.result.1 c.self.invariant (rw (← c.self.view_is) at c.requires.dry) (rw (← c.self.view_is) at c.requires.not_ended) due samples clips c.push-2.ensures.items)
