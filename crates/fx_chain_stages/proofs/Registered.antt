@@ -31,8 +31,8 @@ is-member (stages.Vol s) = record { narrow = λ h. narrow-pending _ s.core.pendi
 is-member (stages.DcShift s) = record { narrow = λ h. narrow-pending _ s.core.pending h.core.fits; keeps = λ other. refl }
 is-member (stages.Fir s) = record { narrow = λ h. narrow-stored s.line _ s.core.pending h.line h.core.fits; keeps = λ other. refl }
 is-member (stages.Remix s) = record { narrow = λ h. narrow-pending _ s.core.pending h.core.fits; keeps = λ other. absurd (other s refl) }
-is-member (stages.Upsample s) = record { narrow = λ h. narrow-pending _ s.pending h.fits; keeps = λ other. refl }
-is-member (stages.Downsample s) = record { narrow = λ h. narrow-pending _ s.pending h.fits; keeps = λ other. refl }
+is-member (stages.Upsample s) = record { narrow = λ h. narrow-pending _ s.core.pending h.core.fits; keeps = λ other. refl }
+is-member (stages.Downsample s) = record { narrow = λ h. narrow-pending _ s.core.pending h.core.fits; keeps = λ other. refl }
 
 pub trim-joins : Joins trim_acts stages.Trim
 trim-joins = record { named = λ r. InPlace r.channels (OfTrim r.positions); kinds = λ r. refl; looks = λ s. refl }

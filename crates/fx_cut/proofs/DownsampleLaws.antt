@@ -1,5 +1,5 @@
 -- The frames that `downsample` gives, along the list.
-use Rattle.std.proofs.Common.{ℕ, suc, ◌+◌, ◌-◌, ◌*◌, ◌<◌, ◌≤◌, ◌≡◌, ◌^◌, List, [], ◌∷◌, ◌++◌, length, drop, refl, sym, ap, ◌∙◌, arith, false, true, inl, inr, ◌⊎◌, length-drop, Option, Some, None, map, option_to_list, slice_index_or, is_none}
+use Rattle.std.proofs.Common.{ℕ, suc, ◌+◌, ◌-◌, ◌*◌, ◌<◌, ◌≤◌, ◌≡◌, ◌^◌, List, [], ◌∷◌, length, drop, refl, sym, ap, ◌∙◌, arith, false, true, inl, inr, ◌⊎◌, length-drop, Option, Some, None, option_to_list, slice_index_or, is_none}
 use Rattle.std.specs.Int.{div_ceil}
 use Rattle.std.proofs.lemmas.Grind.{div_ceil_times}
 use Rattle.fx_frame_base.specs.Frame.{Samples}
@@ -8,6 +8,9 @@ use Rattle.std.proofs.lemmas.Bool.{cases_lt}
 use Rattle.std.proofs.lemmas.List.{get_or-drop}
 use Rattle.fx_frame_base.specs.PendingFrame.{IsPending}
 use Rattle.fx_cut.specs.Ceil.{by_products}
+use Rattle.fx_frame_base.specs.StageCore.{after_offering, pending_frames}
+use Rattle.fx_frame_base.proofs.Cores.{IsCore-offered}
+use Rattle.fx_cut.proofs.CoreCounts.{IsCore-took}
 use Rattle.fx_frame_base.specs.Lists.{tabulate}
 use Rattle.fx_frame_base.specs.Given.{plain}
 use Rattle.fx_cut.specs.Downsample.{downsampled}
@@ -53,66 +56,58 @@ downsampled-cons f x z some =
     ap (λ i. plain (slice_index_or (x ∷ z) i [])) e ∙ ap plain (sym (get_or-drop (f - 1) z ((0 + k) * f) []))) in
     ap (tabulate F 0) count ∙ ap (λ g. g ∷ tabulate F 1 q) here ∙ ap (λ l. plain x ∷ l) more
 
--- where it is dry nothing is in hand
-pub dry-pending : (pending : Option Samples) (after : List Given) → is_none pending ≡ true → map plain (option_to_list pending) ++ after ≡ after
-dry-pending None after h = refl
-dry-pending (Some x) after h = absurd (cc)
-
-dry-count : (pending : Option Samples) → is_none pending ≡ true → length (option_to_list pending) ≡ 0
-dry-count None h = refl
-dry-count (Some x) h = absurd (cc)
+-- where it is dry no frame is pending
+none-is : (pending : Option Samples) → is_none pending ≡ true → pending ≡ None
+none-is None h = refl
+none-is (Some x) h = absurd (cc)
 
 -- a frame that is kept
 abbrev pub kept : DownsampleState → Samples → DownsampleState
-kept s frame = record s { pending = Some frame; skip = s.recipe.factor - 1; taken = s.taken + 1 }
+kept s frame = record s { core = after_offering frame 0 s.core; skip = s.recipe.factor - 1 }
 
 -- a frame that is left out
 abbrev pub left : DownsampleState → DownsampleState
-left s = record s { skip = s.skip - 1; taken = s.taken + 1 }
+left s = record s { core = record s.core { taken = s.core.taken + 1 }; skip = s.skip - 1 }
 
-module _ (s : DownsampleState) (frame : Samples) (is : IsDownsample s) (dry : is_none s.pending ≡ true) (running : s.ended ≡ false) where
+module _ (s : DownsampleState) (frame : Samples) (is : IsDownsample s) (dry : is_none s.core.pending ≡ true) (running : s.core.ended ≡ false) where
   pub Took-kept : s.skip ≡ 0 → Took downsample_acts s (kept s frame) frame
   Took-kept e =
       record {
-        rest = λ z. rw (running, e) (sym (downsampled-cons s.recipe.factor frame z is.arguments.some_factor) ∙ sym (dry-pending s.pending _ dry));
+        rest = λ z. rw (running, e, none-is s.core.pending dry) (sym (downsampled-cons s.recipe.factor frame z is.arguments.some_factor));
         counted = refl;
         recipe_stays = refl;
       }
 
-  pub IsDownsample-kept : s.skip ≡ 0 → s.taken < 2 ^ 56 → IsPending s.recipe.channels (Some frame) → IsDownsample (kept s frame)
+  pub IsDownsample-kept : s.skip ≡ 0 → s.core.taken < 2 ^ 56 → IsPending s.recipe.channels (Some frame) → IsDownsample (kept s frame)
   IsDownsample-kept e below fits =
       let f : ℕ = s.recipe.factor in
       let some : 0 < f = is.arguments.some_factor in
-      let q : ℕ = div_ceil s.taken f in
-      let before : s.taken + s.skip ≡ q * f = is.skipped in
-      let after : (s.taken + 1) + (f - 1) ≡ suc q * f = omega arith in
-      let next : div_ceil (s.taken + 1) f ≡ suc q = ceil_is (s.taken + 1) (f - 1) (suc q) f some after (omega arith) in
-      let none = dry-count s.pending dry in
+      let q : ℕ = div_ceil s.core.taken f in
+      let before : s.core.taken + s.skip ≡ q * f = is.skipped in
+      let after : (s.core.taken + 1) + (f - 1) ≡ suc q * f = omega arith in
+      let next : div_ceil (s.core.taken + 1) f ≡ suc q = ceil_is (s.core.taken + 1) (f - 1) (suc q) f some after (omega arith) in
+      let none : length (pending_frames s.core) ≡ 0 = ap (λ h. length (option_to_list h)) (none-is s.core.pending dry) in
       let c = is.counted in
       record {
+        core = IsCore-offered _ 0 s.core frame 0 is.core running below (fits frame refl).0 (fits frame refl).1 (omega arith);
         arguments = is.arguments;
         counted = rw next (omega arith);
         skipped = rw next after;
-        bound = omega arith;
         pending_place = λ held. omega arith;
-        over = λ ended. absurd (cc (running, ended));
-        fits = fits;
       }
 
-  pub IsDownsample-left : 0 < s.skip → s.taken < 2 ^ 56 → IsDownsample (left s)
+  pub IsDownsample-left : 0 < s.skip → s.core.taken < 2 ^ 56 → IsDownsample (left s)
   IsDownsample-left some below =
       let f : ℕ = s.recipe.factor in
-      let q : ℕ = div_ceil s.taken f in
-      let high : q * f < s.taken + f = (div_ceil_times s.taken f is.arguments.some_factor).1 in
-      let before : s.taken + s.skip ≡ q * f = is.skipped in
-      let after : (s.taken + 1) + (s.skip - 1) ≡ q * f = omega arith in
-      let next : div_ceil (s.taken + 1) f ≡ q = ceil_is (s.taken + 1) (s.skip - 1) q f is.arguments.some_factor after (omega arith) in
+      let q : ℕ = div_ceil s.core.taken f in
+      let high : q * f < s.core.taken + f = (div_ceil_times s.core.taken f is.arguments.some_factor).1 in
+      let before : s.core.taken + s.skip ≡ q * f = is.skipped in
+      let after : (s.core.taken + 1) + (s.skip - 1) ≡ q * f = omega arith in
+      let next : div_ceil (s.core.taken + 1) f ≡ q = ceil_is (s.core.taken + 1) (s.skip - 1) q f is.arguments.some_factor after (omega arith) in
       record {
+        core = IsCore-took _ 1 s.core is.core (omega arith);
         arguments = is.arguments;
         counted = rw next is.counted;
         skipped = rw next after;
-        bound = omega arith;
-        pending_place = λ held. absurd (let none = dry-count s.pending dry in omega arith);
-        over = λ ended. absurd (cc (running, ended));
-        fits = is.fits;
+        pending_place = λ held. absurd (let none : length (pending_frames s.core) ≡ 0 = ap (λ h. length (option_to_list h)) (none-is s.core.pending dry) in omega arith);
       }

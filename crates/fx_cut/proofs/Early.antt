@@ -1,5 +1,5 @@
 -- Frames that leave a full line before as many others come to it.
-use Rattle.std.proofs.Common.{◌≡◌, ◌+◌, ◌-◌, ◌≤◌, ℕ, ℤ, List, ◌++◌, length, drop, sym, ◌∙◌, arith, length-append, length-drop}
+use Rattle.std.proofs.Common.{◌≡◌, ◌-◌, ◌≤◌, ℕ, ℤ, List, ◌++◌, length, drop, sym, arith, length-append, length-drop}
 use Rattle.std.proofs.lemmas.List.{drop-append-le}
 use Rattle.fx_frame_line.specs.Line.{Frames, pushed_all}
 

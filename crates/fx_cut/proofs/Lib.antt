@@ -1,5 +1,6 @@
 -- Written by scripts/effects from effects/*.toml. Do not edit.
 -- Each file of this folder is a module.
+pub mod CoreCounts
 pub mod DownsampleLaws
 pub mod DownsampleMany
 pub mod Early

@@ -1,6 +1,6 @@
 -- The frames that `upsample` gives, along the list.
-use Rattle.std.proofs.Common.{ℕ, zero, suc, ◌+◌, ◌-◌, ◌*◌, ◌<◌, ◌≡◌, List, ◌∷◌, ◌++◌, length, refl, sym, ap, ◌∙◌, arith, replicate, zero-add, add-one, sub-one, Option, Some, None, false, true, ◌&&◌, nat_eq, map, option_to_list, is_none}
-use Rattle.std.proofs.Math.Nat.{mod-eq_of_lt, div-eq_of_lt, add-mod_left, add-div_left}
+use Rattle.std.proofs.Common.{ℕ, zero, suc, ◌+◌, ◌-◌, ◌*◌, ◌<◌, ◌≡◌, ◌/◌, ◌^◌, List, ◌∷◌, ◌++◌, length, refl, sym, ap, ◌∙◌, arith, replicate, zero-add, add-one, sub-one, Option, Some, None, false, true, ◌&&◌, nat_eq, option_to_list, is_none}
+use Rattle.std.proofs.Math.Nat.{mod-eq_of_lt, div-eq_of_lt, div-le_self, add-mod_left, add-div_left, suc-mul}
 use Rattle.std.proofs.lemmas.List.{length-replicate}
 use Rattle.fx_frame_base.specs.Stage.{Gave, Took, Given}
 use Rattle.fx_cut.specs.UpsampleState.{UpsampleState, IsUpsample, upsample_acts}
@@ -10,7 +10,10 @@ use Rattle.fx_frame_base.specs.Lists.{tabulate}
 use Rattle.fx_frame_base.specs.Given.{plain}
 use Rattle.fx_cut.specs.Upsample.{upsampled, upsampled_at}
 use Rattle.fx_frame_base.proofs.Tabulate.{tabulate-append, tabulate-same, tabulate-replicate}
-use Rattle.fx_frame.proofs.DryLaws.{dry-tail}
+use Rattle.fx_frame_base.specs.StageCore.{after_offering, pending_frames}
+use Rattle.fx_frame_base.specs.PendingFrame.{IsPending}
+use Rattle.fx_frame_base.proofs.Cores.{IsCore-offered}
+use Rattle.fx_frame.proofs.DryLaws.{dry-pending, dry-tail}
 
 module _ (channels factor : ℕ) (some : 0 < factor) (x : Samples) (z : List Samples) where
   at_first : upsampled_at channels factor (x ∷ z) 0 ≡ x
@@ -39,32 +42,49 @@ module _ (channels factor : ℕ) (some : 0 < factor) (x : Samples) (z : List Sam
       ∙ ap (λ l. plain x ∷ (replicate (factor - 1) (plain (silence channels)) ++ l)) last
 
 -- the next of the silent frames
-pub silent-first : (frame : Option Samples) (n : ℕ) (p : Given) (after : List Given) → frame ≡ None → 0 < n
-    → map plain (option_to_list frame) ++ (replicate n p ++ after) ≡ p ∷ (map plain (option_to_list frame) ++ (replicate (n - 1) p ++ after))
-silent-first frame zero p after e h = absurd (omega arith)
-silent-first frame (suc n) p after e h = rw (e, sub-one) refl
+silent-first : (n : ℕ) (p : Given) (after : List Given) → 0 < n → replicate n p ++ after ≡ p ∷ (replicate (n - 1) p ++ after)
+silent-first zero p after h = absurd (omega arith)
+silent-first (suc n) p after h = rw sub-one refl
 
--- where it is dry nothing is in hand
-pub dry-rest : (frame : Option Samples) (n : ℕ) (p : Given) (after : List Given) → (is_none frame && nat_eq n 0) ≡ true → map plain (option_to_list frame) ++ (replicate n p ++ after) ≡ after
-dry-rest None zero p after h = refl
-dry-rest None (suc n) p after h = absurd (let k = dry-tail None (suc n) (omega arith) in cc)
-dry-rest (Some x) n p after h = absurd (cc)
+-- where it is dry no silent frame is left
+pub none-silent : (frame : Option Samples) (n : ℕ) → (is_none frame && nat_eq n 0) ≡ true → n ≡ 0
+none-silent frame zero h = refl
+none-silent frame (suc n) h = absurd (let k = dry-tail frame (suc n) (omega arith) in cc)
 
 -- it takes a frame
-pub Took-upsample : (s : UpsampleState) (frame : Samples) → IsUpsample s → upsample_acts.dry s ≡ true → s.ended ≡ false → Took upsample_acts s (record s { pending = Some frame; silent = s.recipe.factor - 1; taken = s.taken + 1 }) frame
+pub Took-upsample : (s : UpsampleState) (frame : Samples) → IsUpsample s → upsample_acts.dry s ≡ true → s.core.ended ≡ false → Took upsample_acts s (record s { core = after_offering frame 0 s.core; silent = s.recipe.factor - 1 }) frame
 Took-upsample s frame is dry running =
     record {
-      rest = λ z. rw running (sym (upsampled-cons s.recipe.channels s.recipe.factor is.arguments.some_factor frame z) ∙ sym (dry-rest s.pending s.silent _ _ dry));
+      rest = λ z. rw (running, dry-pending s.core.pending s.silent dry, none-silent s.core.pending s.silent dry) (sym (upsampled-cons s.recipe.channels s.recipe.factor is.arguments.some_factor frame z));
       counted = refl;
       recipe_stays = refl;
     }
 
+pub IsUpsample-taken : (s : UpsampleState) (frame : Samples) → IsUpsample s → upsample_acts.dry s ≡ true → s.core.ended ≡ false → s.core.taken < 2 ^ 56 / s.recipe.factor → IsPending s.recipe.channels (Some frame)
+    → IsUpsample (record s { core = after_offering frame 0 s.core; silent = s.recipe.factor - 1 })
+IsUpsample-taken s frame is dry running below fits =
+    let f : ℕ = s.recipe.factor in
+    let some : 0 < f = is.arguments.some_factor in
+    let none : length (pending_frames s.core) ≡ 0 = ap (λ p. length (option_to_list p)) (dry-pending s.core.pending s.silent dry) in
+    let zero : s.silent ≡ 0 = none-silent s.core.pending s.silent dry in
+    let counted = is.counted in
+    let more : (s.core.taken + 1) * f ≡ s.core.taken * f + f = rw add-one (omega (arith, suc-mul s.core.taken f)) in
+    record {
+      core = IsCore-offered _ 0 s.core frame 0 is.core running (omega (arith, below, div-le_self (2 ^ 56) f)) (fits frame refl).0 (fits frame refl).1 (omega arith);
+      arguments = is.arguments;
+      counted = omega arith;
+      fewer = omega arith;
+      pending_place = λ held. omega arith;
+      over = λ ended. absurd (cc (running, ended));
+      limit = omega arith;
+    }
+
 -- it gives a silent frame
-pub Gave-silent : (s : UpsampleState) → IsUpsample s → s.pending ≡ None → 0 < s.silent → Gave upsample_acts s (record s { silent = s.silent - 1; given = s.given + 1 }) (silence s.recipe.channels)
+pub Gave-silent : (s : UpsampleState) → IsUpsample s → s.core.pending ≡ None → 0 < s.silent → Gave upsample_acts s (record s { core = record s.core { given = s.core.given + 1; clips = s.core.clips + 0 }; silent = s.silent - 1 }) (silence s.recipe.channels)
 Gave-silent s is e some =
     record {
-      was_wet = dry-tail s.pending s.silent some;
-      gives = record { clips = 0; first = λ z. silent-first _ _ _ _ e some; counted = refl };
+      was_wet = dry-tail s.core.pending s.silent some;
+      gives = record { clips = 0; first = λ z. rw e (silent-first s.silent _ _ some); counted = refl };
       channels = length-replicate _ _;
       due = λ running. let k = is.counted in omega arith;
       maximum = let k = is.counted in omega arith;

@@ -8,6 +8,7 @@ ghost use Rattle.fx_cut.specs.Strides.{firsts};
 
 use crate::many::{PassesMany, feed_by_pieces};
 use fx_frame::{Counters, Feeds, Frame, Passed, Stage, ThawFault, WideFrame};
+use fx_frame_base::StageCore;
 use fx_frame_base::pending::{stored_pending, thawed_pending};
 use fx_frame_base::stage::MAX_TAKEN;
 use std::marker::Model;
@@ -50,13 +51,10 @@ fn copy_firsts(input: &[i32], output: &mut [i32], channels: usize, step: usize, 
 /// `2^56` frames.
 #[derive(Drop)]
 pub struct Downsample {
-    pending: Option<Frame>,
+    core: StageCore,
     channels: usize,
     factor: u64,
     skip: u64,
-    taken: u64,
-    given: u64,
-    ended: bool,
 }
 
 impl Model for Downsample {
@@ -64,9 +62,9 @@ impl Model for Downsample {
 
     ghost Value = { DownsampleState };
 
-    ghost view = { λ s. record { pending = s.pending; recipe = record { channels = s.channels; factor = s.factor }; skip = s.skip; taken = s.taken; given = s.given; ended = s.ended } };
+    ghost view = { λ s. record { core = s.core; recipe = record { channels = s.channels; factor = s.factor }; skip = s.skip } };
 
-    ghost invariant = { λ s. IsDownsample (record { pending = s.pending; recipe = record { channels = s.channels; factor = s.factor }; skip = s.skip; taken = s.taken; given = s.given; ended = s.ended }) };
+    ghost invariant = { λ s. IsDownsample (record { core = s.core; recipe = record { channels = s.channels; factor = s.factor }; skip = s.skip }) };
 }
 
 impl Downsample {
@@ -76,13 +74,10 @@ impl Downsample {
         ensures { IsNew downsample_acts (factor_with channels factor) result }
     {
         Downsample {
-            pending: None,
+            core: StageCore::new(),
             channels,
             factor,
             skip: 0,
-            taken: 0,
-            given: 0,
-            ended: false,
         }
     }
 
@@ -115,14 +110,17 @@ impl Downsample {
             return Err(ThawFault::BadSnapshot);
         }
         let pending = thawed_pending(frames, channels)?;
+        let counters = Counters {
+            taken,
+            given,
+            clips: 0,
+            ended: ended == 1,
+        };
         Ok(Downsample {
-            pending,
+            core: StageCore::restored(pending, 0, counters),
             channels,
             factor,
             skip,
-            taken,
-            given,
-            ended: ended == 1,
         })
     }
 }
@@ -140,38 +138,30 @@ impl Stage for Downsample {
 
     fn take(&mut self, frame: Frame) {
         let _channels = frame.channels();
-        self.taken += 1;
         if self.skip > 0 {
             self.skip -= 1;
+            self.core.take();
             return;
         }
-        self.pending = Some(frame);
+        self.core.offer(frame, 0);
         self.skip = self.factor - 1;
     }
 
     fn end(&mut self) {
-        self.ended = true;
+        self.core.end();
     }
 
     fn give(&mut self) -> Option<Frame> {
-        let frame = self.pending?;
-        self.pending = None;
-        self.given += 1;
-        Some(frame)
+        self.core.give()
     }
 
     fn is_dry(&self) -> bool {
-        self.pending.is_none()
+        !self.core.is_pending()
     }
 
     #[inline(always)]
     fn counter_values(&self) -> Counters {
-        Counters {
-            taken: self.taken,
-            given: self.given,
-            clips: 0,
-            ended: self.ended,
-        }
+        self.core.counter_values()
     }
 
     fn is_spent(&self) -> bool {
@@ -179,7 +169,7 @@ impl Stage for Downsample {
     }
 
     fn held(&self) -> u64 {
-        u64::from(self.pending.is_some())
+        u64::from(self.core.is_pending())
     }
 
     fn hold(&self) -> u64 {
@@ -199,7 +189,7 @@ impl Stage for Downsample {
     }
 
     fn stored(&self, j: usize) -> WideFrame {
-        stored_pending(self.pending, j)
+        stored_pending(self.core.pending(), j)
     }
 }
 
@@ -208,13 +198,13 @@ impl PassesMany for Downsample {
     /// while the output has space for a frame after that of the group.
     fn pass_many(&mut self, input: &[i32], output: &mut [i32]) -> Passed {
         let channels = self.channels;
-        if self.pending.is_some() || self.ended || output.len() < channels {
+        if self.core.is_pending() || self.core.is_ended() || output.len() < channels {
             return Passed { taken: 0, given: 0 };
         }
         let frames = input.len() / channels;
         let left_out = self.skip.min(frames as u64) as usize;
         self.skip -= left_out as u64;
-        self.taken += left_out as u64;
+        self.core.take_many(left_out as u64);
         if self.skip != 0 {
             return Passed {
                 taken: left_out,
@@ -230,8 +220,8 @@ impl PassesMany for Downsample {
             factor,
             groups,
         );
-        self.taken += (groups * factor) as u64;
-        self.given += groups as u64;
+        self.core.take_many((groups * factor) as u64);
+        self.core.give_many(groups as u64);
         Passed {
             taken: left_out + groups * factor,
             given: groups,

@@ -8,6 +8,7 @@ ghost use Rattle.fx_cut.specs.Strides.{spread};
 
 use crate::many::{PassesMany, feed_by_pieces};
 use fx_frame::{Counters, Feeds, Frame, Passed, Stage, ThawFault, WideFrame};
+use fx_frame_base::StageCore;
 use fx_frame_base::pending::{stored_pending, thawed_pending};
 use fx_frame_base::stage::MAX_TAKEN;
 use std::marker::Model;
@@ -62,13 +63,10 @@ fn spread_frames(input: &[i32], output: &mut [i32], channels: usize, factor: usi
 /// `2^56` divided by f frames.
 #[derive(Drop)]
 pub struct Upsample {
-    pending: Option<Frame>,
+    core: StageCore,
     channels: usize,
     factor: u64,
     silent: u64,
-    taken: u64,
-    given: u64,
-    ended: bool,
 }
 
 impl Model for Upsample {
@@ -76,9 +74,9 @@ impl Model for Upsample {
 
     ghost Value = { UpsampleState };
 
-    ghost view = { λ s. record { pending = s.pending; recipe = record { channels = s.channels; factor = s.factor }; silent = s.silent; taken = s.taken; given = s.given; ended = s.ended } };
+    ghost view = { λ s. record { core = s.core; recipe = record { channels = s.channels; factor = s.factor }; silent = s.silent } };
 
-    ghost invariant = { λ s. IsUpsample (record { pending = s.pending; recipe = record { channels = s.channels; factor = s.factor }; silent = s.silent; taken = s.taken; given = s.given; ended = s.ended }) };
+    ghost invariant = { λ s. IsUpsample (record { core = s.core; recipe = record { channels = s.channels; factor = s.factor }; silent = s.silent }) };
 }
 
 impl Upsample {
@@ -88,13 +86,10 @@ impl Upsample {
         ensures { IsNew upsample_acts (factor_with channels factor) result }
     {
         Upsample {
-            pending: None,
+            core: StageCore::new(),
             channels,
             factor,
             silent: 0,
-            taken: 0,
-            given: 0,
-            ended: false,
         }
     }
 
@@ -130,14 +125,17 @@ impl Upsample {
             return Err(ThawFault::BadSnapshot);
         }
         let pending = thawed_pending(frames, channels)?;
+        let counters = Counters {
+            taken,
+            given,
+            clips: 0,
+            ended: ended == 1,
+        };
         Ok(Upsample {
-            pending,
+            core: StageCore::restored(pending, 0, counters),
             channels,
             factor,
             silent,
-            taken,
-            given,
-            ended: ended == 1,
         })
     }
 }
@@ -154,41 +152,31 @@ impl Stage for Upsample {
     ghost rises = { λ r m n h. mul-le-mul_right r.factor h };
 
     fn take(&mut self, frame: Frame) {
-        self.pending = Some(frame);
+        let _channels = frame.channels();
+        self.core.offer(frame, 0);
         self.silent = self.factor - 1;
-        self.taken += 1;
     }
 
     fn end(&mut self) {
-        self.ended = true;
+        self.core.end();
     }
 
     fn give(&mut self) -> Option<Frame> {
-        if let Some(frame) = self.pending {
-            self.pending = None;
-            self.given += 1;
-            return Some(frame);
-        }
-        if self.silent == 0 {
-            return None;
+        if self.core.is_pending() || self.silent == 0 {
+            return self.core.give();
         }
         self.silent -= 1;
-        self.given += 1;
+        self.core.give_made(0);
         Some(Frame::silence(self.channels))
     }
 
     fn is_dry(&self) -> bool {
-        self.pending.is_none() && self.silent == 0
+        !self.core.is_pending() && self.silent == 0
     }
 
     #[inline(always)]
     fn counter_values(&self) -> Counters {
-        Counters {
-            taken: self.taken,
-            given: self.given,
-            clips: 0,
-            ended: self.ended,
-        }
+        self.core.counter_values()
     }
 
     fn is_spent(&self) -> bool {
@@ -196,7 +184,7 @@ impl Stage for Upsample {
     }
 
     fn held(&self) -> u64 {
-        u64::from(self.pending.is_some())
+        u64::from(self.core.is_pending())
     }
 
     fn state_counters(&self) -> [u64; 3] {
@@ -204,7 +192,7 @@ impl Stage for Upsample {
     }
 
     fn stored(&self, j: usize) -> WideFrame {
-        stored_pending(self.pending, j)
+        stored_pending(self.core.pending(), j)
     }
 
     fn hold(&self) -> u64 {
@@ -224,14 +212,14 @@ impl PassesMany for Upsample {
     /// Passes each frame with the silence after it.
     fn pass_many(&mut self, input: &[i32], output: &mut [i32]) -> Passed {
         let channels = self.channels;
-        if self.pending.is_some() || self.silent != 0 || self.ended {
+        if self.core.is_pending() || self.silent != 0 || self.core.is_ended() {
             return Passed { taken: 0, given: 0 };
         }
         let factor = self.factor as usize;
         let count = (input.len() / channels).min(output.len() / channels / factor);
         spread_frames(input, output, channels, factor, count);
-        self.taken += count as u64;
-        self.given += (count * factor) as u64;
+        self.core.take_many(count as u64);
+        self.core.give_many((count * factor) as u64);
         Passed {
             taken: count,
             given: count * factor,

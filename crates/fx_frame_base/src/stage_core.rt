@@ -1,4 +1,4 @@
-//! What each stage that counts clips holds beside its lines and its arguments: the pending frame, the clips in it, and the counters.
+//! What a stage holds beside its lines and its arguments: the pending frame, the clips in it, and the counters.
 ghost use Rattle.std.specs.Prelude.{◌≡◌, ◌+◌, ◌<◌, ◌≤◌, ◌^◌, None, true, is_some};
 ghost use Rattle.fx_frame_base.specs.StageCore.{after_offering, after_passing, after_pending, core_counters, new_core, restored_core};
 
@@ -156,5 +156,23 @@ impl StageCore {
         ensures { self.new ≡ record self.old { ended = true } }
     {
         self.ended = true;
+    }
+
+    /// Counts frames that the stage took in one call, where it gives another number of them.
+    #[inline(always)]
+    pub fn take_many(&mut self, count: u64)
+        requires { self.old.taken + count < 2 ^ 62 }
+        ensures { self.new ≡ record self.old { taken = self.old.taken + count } }
+    {
+        self.taken += count;
+    }
+
+    /// Counts frames that the stage gave in one call, and that were never pending. None of their samples was clipped.
+    #[inline(always)]
+    pub fn give_many(&mut self, count: u64)
+        requires { self.old.given + count < 2 ^ 62 }
+        ensures { self.new ≡ record self.old { given = self.old.given + count } }
+    {
+        self.given += count;
     }
 }

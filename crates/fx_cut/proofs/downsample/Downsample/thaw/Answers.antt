@@ -10,4 +10,4 @@ pub overflow_add-skip : goal.overflow_add-skip
 overflow_add-skip c = grind (arith, common_steps)
 
 pub returns-clause-frozen : goal.returns-clause-frozen
-returns-clause-frozen c = grind (arith, common_steps)
+returns-clause-frozen c = rw c.restored.ensures (grind (arith, common_steps))

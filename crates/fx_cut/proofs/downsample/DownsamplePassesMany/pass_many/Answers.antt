@@ -11,14 +11,14 @@ use Rattle.fx_cut.proofs.DownsampleMany.{Ready, all-passed, groups-free, lead-pa
 use Rattle.fx_cut.proofs.Pieces.{frames-free}
 use Rattle.fx_frame_base.proofs.Puts.{part-from}
 use Rattle.fx_cut.proofs.downsample.DownsamplePassesMany.pass_many.Goals as goal
-use Rattle.fx_cut.proofs.downsample.DownsamplePassesMany.pass_many.Goals.{After-min-left_out, After-min-groups, Then-self-ne0, After-self-4-1}
+use Rattle.fx_cut.proofs.downsample.DownsamplePassesMany.pass_many.Goals.{After-min-left_out, After-min-groups, Then-self-ne0, After-give_many}
 
-pub returns-then-is_some-clause-fed : goal.returns-then-is_some-clause-fed
-returns-then-is_some-clause-fed c = nothing
+pub returns-then-is_pending-clause-fed : goal.returns-then-is_pending-clause-fed
+returns-then-is_pending-clause-fed c = nothing
 
 -- no frame is in hand
 ready : (c : After-min-left_out) → Ready (view c.self.inside)
-ready c = record { is = c.self.invariant; empty = none-of c.self.inside.pending (search rules); running = c.if-self.false }
+ready c = record { is = c.self.invariant; empty = none-of c.self.inside.core.pending (search rules); running = search rules }
 
 -- the frames that are left out
 lead : (c : Then-self-ne0) → let s = view c.self.inside in let n = c.min-left_out.result in Fed downsample_acts s (pieces s.recipe.channels n c.args.input.now) [] (beyond s n) × Ready (beyond s n)
@@ -29,10 +29,10 @@ lead c =
     lead-passed (view c.self.inside) n c.args.input.now (ready (goal.at.invariant_of-self c).After-min-left_out) (omega (arith, c.min-left_out.ensures)) (below n free)
 
 pub invariant_of-self : goal.invariant_of-self
-invariant_of-self c = (lead c).1.is
+invariant_of-self c = rw c.take_many.ensures (lead c).1.is
 
 pub returns-then-self-ne0-clause-fed : goal.returns-then-self-ne0-clause-fed
-returns-then-self-ne0-clause-fed c = rw (← c.self.view_is) (lead c).0
+returns-then-self-ne0-clause-fed c = rw (← c.self.view_is, c.take_many.ensures) (lead c).0
 
 -- the groups behind them are there
 free : (c : After-min-groups) → (c.min-left_out.result + c.min-groups.result * c.self.inside.factor) * c.self.inside.channels ≤ length c.args.input.now
@@ -49,8 +49,8 @@ copy_firsts-requires-clause-input c =
     rw part-from (omega (arith, all, split, length-drop (n * ch) c.args.input.now))
 
 -- and passed with them
-groups : (c : After-self-4-1) → let s = view c.self.inside in let n = c.min-left_out.result in let m = c.min-groups.result in
-    let t = record s { skip = s.skip - n; taken = s.taken + n + m * s.recipe.factor; given = s.given + m } in
+groups : (c : After-give_many) → let s = view c.self.inside in let n = c.min-left_out.result in let m = c.min-groups.result in
+    let t = record s { core = record s.core { taken = s.core.taken + n + m * s.recipe.factor; given = s.core.given + m }; skip = s.skip - n } in
     Fed downsample_acts s (pieces s.recipe.channels (n + m * s.recipe.factor) c.args.input.now) (pieces s.recipe.channels m c.copy_firsts.new.output) t × Ready t
 groups c =
     let n = c.min-left_out.result in
@@ -60,10 +60,10 @@ groups c =
     all-passed (view c.self.inside) n c.min-groups.result c.args.input.now c.copy_firsts.new.output (ready (goal.at.invariant_of-self-2 c).After-min-left_out) (omega (arith, c.min-left_out.ensures)) c.if-self-ne0.false all (below (n + c.min-groups.result * c.self.inside.factor) all) same
 
 pub invariant_of-self-2 : goal.invariant_of-self-2
-invariant_of-self-2 c = (groups c).1.is
+invariant_of-self-2 c = rw (c.give_many.ensures, c.take_many-2.ensures, c.take_many.ensures) (groups c).1.is
 
 pub returns-clause-fed : goal.returns-clause-fed
-returns-clause-fed c = rw (← c.self.view_is) (groups c).0
+returns-clause-fed c = rw (← c.self.view_is, c.give_many.ensures, c.take_many-2.ensures, c.take_many.ensures) (groups c).0
 
 pub returns-clause-read : goal.returns-clause-read
 returns-clause-read c = rw (← c.self.view_is) (free (goal.at.returns-clause-read c).After-min-groups)
@@ -81,8 +81,8 @@ returns-clause-free c =
     let n = c.min-left_out.result in
     let m = c.min-groups.result in
     let ch = c.self.inside.channels in
-    let t = record s { skip = s.skip - n; taken = s.taken + n + m * s.recipe.factor; given = s.given + m } in
+    let t = record s { core = record s.core { taken = s.core.taken + n + m * s.recipe.factor; given = s.core.given + m }; skip = s.skip - n } in
     let free = length c.args.output.now in
     let fewer : m * ch ≤ free - ch = frames-free m ch (free - ch) (omega (arith, c.min-groups.ensures)) in
     let one : (m + 1) * ch ≤ free = omega (arith, fewer, add-mul m 1 ch) in
-    rw (← c.self.view_is) (took-with-free s t (n + m * c.self.inside.factor) m free (groups (goal.at.returns-clause-free c).After-self-4-1).1 refl (omega arith) refl one)
+    rw (← c.self.view_is) (took-with-free s t (n + m * c.self.inside.factor) m free (groups (goal.at.returns-clause-free c).After-give_many).1 refl (omega arith) refl one)

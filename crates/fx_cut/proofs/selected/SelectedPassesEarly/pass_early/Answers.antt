@@ -1,4 +1,4 @@
-use Rattle.std.proofs.Common.{rules, ◌≡◌, ◌≤◌, ◌*◌, ◌∙◌, ℕ, ◌++◌, length, take, drop, sym, ap, arith, append-nil, None, option_to_list}
+use Rattle.std.proofs.Common.{◌≡◌, ◌≤◌, ◌*◌, ◌∙◌, ℕ, ◌++◌, length, take, drop, sym, arith, append-nil, None, option_to_list}
 use Rattle.std.proofs.lemmas.List.{take-append-le}
 use Rattle.fx_frame_base.specs.Pipeline.{EachThrough}
 use Rattle.fx_frame_base.specs.Lists.{pieces}

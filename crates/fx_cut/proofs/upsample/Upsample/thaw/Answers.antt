@@ -6,4 +6,4 @@ pub returns-then-silent-factor-clause-thawed : goal.returns-then-silent-factor-c
 returns-then-silent-factor-clause-thawed c = grind (arith, common_steps)
 
 pub returns-clause-frozen : goal.returns-clause-frozen
-returns-clause-frozen c = grind (arith, common_steps)
+returns-clause-frozen c = rw c.restored.ensures (grind (arith, common_steps))
