@@ -23,9 +23,8 @@ use Rattle.fx_frame_base.specs.Stage.{IsNew}
 use Rattle.fx_frame.specs.Tapped.{TapState}
 use Rattle.fx_tap_delays.specs.Delay.{every_delay}
 use Rattle.fx_tap_delays.specs.DelayState.{delay_acts}
-use Rattle.fx_tap_delays.specs.Echo.{EchoArguments}
+use Rattle.fx_tap_delays.specs.Echo.{EchoArguments, EchoValue}
 use Rattle.fx_tap_delays.specs.EchoState.{echo_acts}
-use Rattle.fx_tap_delays.specs.EchoWords.{EchoValue}
 use Rattle.fx_cut.specs.PadWords.{Length, are_pads, are_rising}
 use Rattle.fx_tap_pointwise.specs.RemixWords.{is_mix, specs_in}
 use Rattle.fx_plan_effects.specs.Effects.{Act, channels_after}
@@ -97,8 +96,8 @@ trim-new channels ps s new = record { recipe = ap (λ (r : TrimArguments). InPla
 pub pad-new : (channels : ℕ) (pads : List Length) (s : PadState) → IsNew pad_acts (record { channels = channels; pads = pads }) s → IsNew effect_acts (recipe_at (InPlace channels (OfPad pads))) (stages.Pad s)
 pad-new channels pads s new = record { recipe = ap (λ (r : PadArguments). InPlace r.channels (OfPad r.pads)) new.recipe; rest = new.rest; counts = new.counts; dry = new.dry; stored = new.stored; state_counters = new.state_counters }
 
-pub echo-new : (channels : ℕ) (e : EchoValue) (s : TapState EchoArguments) → IsNew echo_acts (record { channels = channels; gain_in = e.gain_in; gain_out = e.gain_out; taps = e.taps }) s → IsNew effect_acts (recipe_at (InPlace channels (OfEcho e))) (stages.Echo s)
-echo-new channels e s new = record { recipe = ap (λ (r : EchoArguments). InPlace r.channels (OfEcho (record { gain_in = r.gain_in; gain_out = r.gain_out; taps = r.taps }))) new.recipe; rest = new.rest; counts = new.counts; dry = new.dry; stored = new.stored; state_counters = new.state_counters }
+pub echo-new : (channels : ℕ) (e : EchoValue) (s : TapState EchoArguments) → IsNew echo_acts (record { channels = channels; echo = e }) s → IsNew effect_acts (recipe_at (InPlace channels (OfEcho e))) (stages.Echo s)
+echo-new channels e s new = record { recipe = ap (λ (r : EchoArguments). InPlace r.channels (OfEcho r.echo)) new.recipe; rest = new.rest; counts = new.counts; dry = new.dry; stored = new.stored; state_counters = new.state_counters }
 
 pub fade-new : (channels : ℕ) (f : Fading) (s : SelectedState FadeArguments) → IsNew fade_acts (record { channels = channels; shape = record { fade_in = f.fade_in; stop = effective f.stop; fade_out = f.fade_out } }) s → IsNew effect_acts (recipe_at (InPlace channels (OfFade f))) (stages.Fade s)
 fade-new channels f s new = record { recipe = ap (λ (r : FadeArguments). InPlace r.channels (OfFade (record { fade_in = r.shape.fade_in; stop = r.shape.stop; fade_out = r.shape.fade_out }))) new.recipe; rest = new.rest; counts = new.counts; dry = new.dry; stored = new.stored; state_counters = new.state_counters }

@@ -44,10 +44,10 @@ pub delay-joins : Joins delay_acts stages.Delay
 delay-joins = record { named = λ delays. InPlace (length delays) (OfDelay delays); kinds = λ r. refl; looks = λ s. refl }
 
 pub echo-joins : Joins echo_acts stages.Echo
-echo-joins = record { named = λ r. InPlace r.channels (OfEcho (record { gain_in = r.gain_in; gain_out = r.gain_out; taps = r.taps })); kinds = λ r. refl; looks = λ s. refl }
+echo-joins = record { named = λ r. InPlace r.channels (OfEcho r.echo); kinds = λ r. refl; looks = λ s. refl }
 
 pub echos-joins : Joins echos_acts stages.Echos
-echos-joins = record { named = λ r. InPlace r.channels (OfEchos (record { gain_in = r.gain_in; gain_out = r.gain_out; taps = r.taps })); kinds = λ r. refl; looks = λ s. refl }
+echos-joins = record { named = λ r. InPlace r.channels (OfEchos r.echo); kinds = λ r. refl; looks = λ s. refl }
 
 pub fade-joins : Joins fade_acts stages.Fade
 fade-joins = record { named = λ r. InPlace r.channels (OfFade (record { fade_in = r.shape.fade_in; stop = r.shape.stop; fade_out = r.shape.fade_out })); kinds = λ r. refl; looks = λ s. refl }

@@ -29,8 +29,8 @@ abbrev pub look_of : EffectStage → Look
 look_of (stages.Trim s) = look trim_acts (λ r. InPlace r.channels (OfTrim r.positions)) s
 look_of (stages.Pad s) = look pad_acts (λ r. InPlace r.channels (OfPad r.pads)) s
 look_of (stages.Delay s) = look delay_acts (λ delays. InPlace (length delays) (OfDelay delays)) s
-look_of (stages.Echo s) = look echo_acts (λ r. InPlace r.channels (OfEcho (record { gain_in = r.gain_in; gain_out = r.gain_out; taps = r.taps }))) s
-look_of (stages.Echos s) = look echos_acts (λ r. InPlace r.channels (OfEchos (record { gain_in = r.gain_in; gain_out = r.gain_out; taps = r.taps }))) s
+look_of (stages.Echo s) = look echo_acts (λ r. InPlace r.channels (OfEcho r.echo)) s
+look_of (stages.Echos s) = look echos_acts (λ r. InPlace r.channels (OfEchos r.echo)) s
 look_of (stages.Fade s) = look fade_acts (λ r. InPlace r.channels (OfFade (record { fade_in = r.shape.fade_in; stop = r.shape.stop; fade_out = r.shape.fade_out }))) s
 look_of (stages.Vol s) = look vol_acts (λ r. InPlace r.channels (OfVol r.sampling)) s
 look_of (stages.DcShift s) = look dcshift_acts (λ r. InPlace r.channels (OfDcShift r.sampling)) s

@@ -19,8 +19,8 @@ use Rattle.fx_cut.specs.Fade.{fade_kind, fade_meaning}
 use Rattle.fx_cut.specs.Upsample.{upsample_kind, upsample_meaning}
 use Rattle.fx_cut.specs.Downsample.{downsample_kind, downsample_meaning}
 use Rattle.fx_tap_delays.specs.Delay.{delay_kind, delayed, every_delay}
-use Rattle.fx_tap_delays.specs.EchoWords.{EchoValue, are_taps, echo_value}
-use Rattle.fx_tap_delays.specs.Echo.{echo, echo_kind}
+use Rattle.fx_tap_delays.specs.EchoWords.{are_taps, echo_value}
+use Rattle.fx_tap_delays.specs.Echo.{EchoValue, echo, echo_kind}
 use Rattle.fx_tap_delays.specs.Echos.{echos, echos_kind}
 use Rattle.fx_tap_pointwise.specs.PerSample.{sample_kind}
 use Rattle.fx_tap_pointwise.specs.Vol.{vol_meaning}
@@ -121,8 +121,8 @@ abbrev pub determined_at : Placed → Determined
 determined_at (InPlace channels (OfTrim ps)) = determined trim_kind trim_meaning (record { channels = channels; positions = ps })
 determined_at (InPlace channels (OfPad pads)) = determined pad_kind pad_meaning (record { channels = channels; pads = pads })
 determined_at (InPlace channels (OfDelay ds)) = determined delay_kind delayed ds
-determined_at (InPlace channels (OfEcho e)) = determined echo_kind echo (record { channels = channels; gain_in = e.gain_in; gain_out = e.gain_out; taps = e.taps })
-determined_at (InPlace channels (OfEchos e)) = determined echos_kind echos (record { channels = channels; gain_in = e.gain_in; gain_out = e.gain_out; taps = e.taps })
+determined_at (InPlace channels (OfEcho e)) = determined echo_kind echo (record { channels = channels; echo = e })
+determined_at (InPlace channels (OfEchos e)) = determined echos_kind echos (record { channels = channels; echo = e })
 determined_at (InPlace channels (OfFade fade)) = determined fade_kind fade_meaning (record { channels = channels; shape = record { fade_in = fade.fade_in; stop = fade.stop; fade_out = fade.fade_out } })
 determined_at (InPlace channels (OfVol gain)) = determined sample_kind vol_meaning (record { channels = channels; sampling = gain })
 determined_at (InPlace channels (OfDcShift shift)) = determined sample_kind dcshift_meaning (record { channels = channels; sampling = shift })

@@ -10,6 +10,7 @@ use Rattle.fx_frame_base.specs.Lists.{tabulate}
 use Rattle.fx_tap_delays.specs.Echo.{EchoArguments, echo_sum, echoed_sample, sum_of_taps}
 use Rattle.fx_frame.specs.History.{History, sample_before}
 use Rattle.fx_frame_base.proofs.Tabulate.{tabulate-same}
+use Rattle.fx_tap_delays.specs.DelayExtents.{Tap}
 use Rattle.fx_tap_sums.proofs.SumLaws.{add-next}
 
 -- the frame that comes after those of the line is the one that is 0 frames ago
@@ -27,24 +28,24 @@ sample-now items f k =
 pub echo-first : (y o z p e : ℤ) → y ≡ o +ℤ z → o ≡ pos 0 → p ≡ z → y +ℤ e ≡ p +ℤ e
 echo-first y o z p e a b h = omega (arith, ints, a, b, h)
 
-taps-drop : (es : List (ℕ × ℤ)) (i : ℕ) (e d : ℕ × ℤ) (history : History) (k : ℕ) → i < length es → e ≡ get_or es i d → sum_of_taps (drop i es) history k ≡ (e.1 *ℤ history e.0 k) +ℤ sum_of_taps (drop (i + 1) es) history k
+taps-drop : (es : List Tap) (i : ℕ) (e d : Tap) (history : History) (k : ℕ) → i < length es → e ≡ get_or es i d → sum_of_taps (drop i es) history k ≡ (e.1 *ℤ history e.0 k) +ℤ sum_of_taps (drop (i + 1) es) history k
 taps-drop es i e d history k h is = rw (is, add-one, drop-cons es i d) refl
 
-pub echo-next : (es : List (ℕ × ℤ)) (i : ℕ) (e d : ℕ × ℤ) (history : History) (k : ℕ) (y s w : ℤ) → i < length es → e ≡ get_or es i d → y ≡ s +ℤ (e.1 *ℤ history e.0 k)
+pub echo-next : (es : List Tap) (i : ℕ) (e d : Tap) (history : History) (k : ℕ) (y s w : ℤ) → i < length es → e ≡ get_or es i d → y ≡ s +ℤ (e.1 *ℤ history e.0 k)
     → s +ℤ sum_of_taps (drop i es) history k ≡ w → y +ℤ sum_of_taps (drop (i + 1) es) history k ≡ w
 echo-next es i e d history k y s w h is more whole =
     add-next y s (e.1 *ℤ history e.0 k) (sum_of_taps (drop (i + 1) es) history k) w more (ap (λ r. s +ℤ r) (sym (taps-drop es i e d history k h is)) ∙ whole)
 
 -- after the last
-pub echo-last : (es : List (ℕ × ℤ)) (i : ℕ) (history : History) (k : ℕ) (s w : ℤ) → length es ≤ i → s +ℤ sum_of_taps (drop i es) history k ≡ w → s ≡ w
+pub echo-last : (es : List Tap) (i : ℕ) (history : History) (k : ℕ) (s w : ℤ) → length es ≤ i → s +ℤ sum_of_taps (drop i es) history k ≡ w → s ≡ w
 echo-last es i history k s w h whole =
     let none : drop i es ≡ [] = drop_all i es h in
     let e : s +ℤ pos 0 ≡ w = rw none at whole in
     omega (arith, ints, e)
 
 -- the rounded sums are the rounded echoes
-pub echoed-is : (a : EchoArguments) (history : History) (sums : List ℤ) → ((k : ℕ) → k < a.channels → slice_index_or sums k (pos 0) ≡ echo_sum a history k)
-    → tabulate (λ k. rounding (a.gain_out *ℤ slice_index_or sums k (pos 0)) (UNIT * UNIT)) 0 a.channels ≡ tabulate (echoed_sample a history) 0 a.channels
+pub echoed-is : (a : EchoArguments) (history : History) (sums : List ℤ) → ((k : ℕ) → k < a.channels → slice_index_or sums k (pos 0) ≡ echo_sum a.echo history k)
+    → tabulate (λ k. rounding (a.echo.gain_out *ℤ slice_index_or sums k (pos 0)) (UNIT * UNIT)) 0 a.channels ≡ tabulate (echoed_sample a.echo history) 0 a.channels
 echoed-is a history sums h =
-    tabulate-same (λ k. rounding (a.gain_out *ℤ slice_index_or sums k (pos 0)) (UNIT * UNIT)) (echoed_sample a history) 0 0 a.channels (λ k l.
-    rw zero-add (ap (λ z. rounding (a.gain_out *ℤ z) (UNIT * UNIT)) (h k l)))
+    tabulate-same (λ k. rounding (a.echo.gain_out *ℤ slice_index_or sums k (pos 0)) (UNIT * UNIT)) (echoed_sample a.echo history) 0 0 a.channels (λ k l.
+    rw zero-add (ap (λ z. rounding (a.echo.gain_out *ℤ z) (UNIT * UNIT)) (h k l)))

@@ -12,8 +12,8 @@ use Rattle.fx_frame_line.proofs.ManyFrames.{latest-held, latest-silence}
 use Rattle.fx_frame_base.proofs.Pieces.{get_or-piece}
 use Rattle.fx_tap_delays.specs.Echo.{EchoArguments, echo_sum, echoed_frame, echoed_sample}
 use Rattle.fx_tap_delays.specs.EchoState.{echo_taps}
-use Rattle.fx_tap_sums.specs.Weights.{SoundsAs, Weights}
-use Rattle.fx_tap_delays.specs.EchoWeights.{weighed}
+use Rattle.fx_tap_sums.specs.Weights.{Weights}
+use Rattle.fx_tap_delays.specs.EchoWeights.{weighed, SoundsAsEcho}
 use Rattle.fx_frame.specs.Made.{rounded_given}
 use Rattle.fx_frame_base.specs.Rounded.{clips_rounded, samples_of}
 use Rattle.fx_frame.specs.Tapped.{clips_after, frames_after}
@@ -58,11 +58,11 @@ coming-sample channels n i k items frames lt within =
 -- ---- frames
 
 -- the rounded sums of so many frames are the frames with their echoes
-module _ (a : EchoArguments) (w : Weights) (sounds : SoundsAs a.gain_in a.gain_out a.taps w) (items coming : List Samples) (n : ℕ) (sums : List ℤ) (many : length coming ≡ n) (long : length sums ≡ n * a.channels)
-    (h : (i k : ℕ) → i < n → k < a.channels → get_or sums (i * a.channels + k) (pos 0) ≡ echo_sum (weighed a w.weights) (sample_before (items ++ coming) (length items + i)) k) where
+module _ (a : EchoArguments) (w : Weights) (sounds : SoundsAsEcho a.echo w) (items coming : List Samples) (n : ℕ) (sums : List ℤ) (many : length coming ≡ n) (long : length sums ≡ n * a.channels)
+    (h : (i k : ℕ) → i < n → k < a.channels → get_or sums (i * a.channels + k) (pos 0) ≡ echo_sum (weighed a.echo w.weights) (sample_before (items ++ coming) (length items + i)) k) where
   each-frame : (i : ℕ) → i < n → rounded_given (λ z. rounding z w.denominator) (get_or (pieces a.channels n sums) i []) ≡ echoed_frame a (sample_before (items ++ coming) (length items + i))
   each-frame i lt =
-      rounded-frame (λ z. rounding z w.denominator) a.channels n sums long (echoed_sample a (sample_before (items ++ coming) (length items + i))) i lt (λ k l.
+      rounded-frame (λ z. rounding z w.denominator) a.channels n sums long (echoed_sample a.echo (sample_before (items ++ coming) (length items + i))) i lt (λ k l.
       ap (λ z. rounding z w.denominator) (h i k lt l) ∙ small-sample a w (sample_before (items ++ coming) (length items + i)) k sounds)
 
   pub piece-frames : (out : List ℤ) → out ≡ samples_of (map (λ z. rounding z w.denominator) sums) → pieces a.channels n out ≡ frames_after echo_taps a items coming

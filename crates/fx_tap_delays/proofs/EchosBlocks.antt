@@ -46,7 +46,7 @@ module _ (a : EchoArguments) where
   abbrev pub next : List (Frames ℤ) → Samples → List (Frames ℤ)
   next lines x = lines_after a.channels lines x (replicate a.channels (pos 0))
 
-  one-passed : (lines : List (Frames ℤ)) (count clips : ℕ) (x : Samples) → echo_places lines ≡ sum_of_delays a.taps
+  one-passed : (lines : List (Frames ℤ)) (count clips : ℕ) (x : Samples) → echo_places lines ≡ sum_of_delays a.echo.taps
       → PassedOn echos_acts Through (ready lines count clips) (ready (next lines x) (count + 1) (clips + (made lines x).clips)) x (made lines x).samples
   one-passed lines count clips x places =
       let first : EchosState = ready lines count clips in
@@ -74,14 +74,14 @@ module _ (a : EchoArguments) where
       } in
       (mid, took, gave, refl)
 
-  one-fed : (lines : List (Frames ℤ)) (count clips : ℕ) (x : Samples) → echo_places lines ≡ sum_of_delays a.taps
+  one-fed : (lines : List (Frames ℤ)) (count clips : ℕ) (x : Samples) → echo_places lines ≡ sum_of_delays a.echo.taps
       → Fed echos_acts (ready lines count clips) (x ∷ []) ((made lines x).samples ∷ []) (ready (next lines x) (count + 1) (clips + (made lines x).clips))
   one-fed lines count clips x places =
       let passed = one-passed lines count clips x places in
       given (x ∷ []) [] (made lines x).samples passed.0 (ready (next lines x) (count + 1) (clips + (made lines x).clips)) (taken [] [] x (ready lines count clips) passed.0 nothing passed.1) passed.2
 
   -- frame by frame
-  pub lines-fed : (xs : List Samples) (lines : List (Frames ℤ)) (count clips : ℕ) → echo_places lines ≡ sum_of_delays a.taps
+  pub lines-fed : (xs : List Samples) (lines : List (Frames ℤ)) (count clips : ℕ) → echo_places lines ≡ sum_of_delays a.echo.taps
       → Fed echos_acts (ready lines count clips) xs (map (λ (g : Given). g.samples) (through_lines a lines xs)) (ready (series_lines_after a.channels lines xs) (count + length xs) (clips + total (λ (g : Given). g.clips) (through_lines a lines xs)))
   lines-fed [] lines count clips places = rw (add-zero, add-zero) nothing
   lines-fed (x ∷ xs) lines count clips places =
@@ -96,7 +96,7 @@ module _ (a : EchoArguments) where
   ready-dry lines count clips = record { due = λ e. refl; over = λ e. absurd (cc (e)) }
 
   -- each given before the next is taken
-  lines-through : (xs : List Samples) (lines : List (Frames ℤ)) (count clips : ℕ) → echo_places lines ≡ sum_of_delays a.taps
+  lines-through : (xs : List Samples) (lines : List (Frames ℤ)) (count clips : ℕ) → echo_places lines ≡ sum_of_delays a.echo.taps
       → EachThrough echos_acts xs (map (λ (g : Given). g.samples) (through_lines a lines xs)) (ready lines count clips) (ready (series_lines_after a.channels lines xs) (count + length xs) (clips + total (λ (g : Given). g.clips) (through_lines a lines xs)))
   lines-through [] lines count clips places = rw (add-zero, add-zero) refl
   lines-through (x ∷ xs) lines count clips places =
@@ -151,7 +151,7 @@ module _ (s : EchosState) (lines : List (Frames ℤ)) (is : IsEchos s) (none : s
 
 -- the state after it
 pub IsEchos-block : (s : EchosState) (lines : List (Frames ℤ)) (n clips : ℕ) → IsEchos s → s.core.pending ≡ None → s.core.ended ≡ false → s.core.taken + n ≤ 2 ^ 56 → length lines ≡ length s.lines
-    → ((j : ℕ) → j < length lines → IsEchoLine s.arguments.channels (came_of s + n) j (delay_at s.arguments.taps j) (line_at lines j)) → clips ≤ n * 16
+    → ((j : ℕ) → j < length lines → IsEchoLine s.arguments.channels (came_of s + n) j (delay_at s.arguments.echo.taps j) (line_at lines j)) → clips ≤ n * 16
     → IsEchos (passed_echos s lines n clips)
 IsEchos-block s lines n clips is none running bound many sound little =
     let counted : s.core.given + 0 + s.tail ≡ s.core.taken + 0 = rw (none, running) at is.counted in

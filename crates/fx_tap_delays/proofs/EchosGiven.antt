@@ -29,15 +29,15 @@ pub length-series_lines : (c : ℕ) (ls : List (Frames ℤ)) (xs : List Samples)
 length-series_lines c ls [] = refl
 length-series_lines c ls (x ∷ xs) = length-series_lines c (lines_after c ls x (replicate c (pos 0))) xs ∙ length-after c ls x (replicate c (pos 0))
 
-module _ (a : EchoArguments) (w : Weights) (suits : Suits a w) (ls : List (Frames ℤ)) (frames : List ℤ) (n : ℕ) (sums : List ℤ) (taps : length a.taps ≡ length ls) (long : length sums ≡ n * a.channels)
+module _ (a : EchoArguments) (w : Weights) (suits : Suits a w) (ls : List (Frames ℤ)) (frames : List ℤ) (n : ℕ) (sums : List ℤ) (taps : length a.echo.taps ≡ length ls) (long : length sums ≡ n * a.channels)
     (h : (i k : ℕ) → i < n → k < a.channels → get_or sums (i * a.channels + k) (pos 0) ≡ (get_or w.weights 0 (pos 0) *ℤ get_or frames (i * a.channels + k) (pos 0)) +ℤ sum_of_products (drop 1 w.weights) (channel_of (gone_at a.channels ls (pieces a.channels n frames) i) k (pos 0))) where
   each-frame : (i : ℕ) → i < n → rounded_given (λ z. rounding z w.denominator) (get_or (pieces a.channels n sums) i []) ≡ frame_of_lines a (get_or (pieces a.channels n frames) (0 + i) []) (gone_at a.channels ls (pieces a.channels n frames) (0 + i))
   each-frame i lt =
       let xs : List Samples = pieces a.channels n frames in
       let gone : List Samples = gone_at a.channels ls (pieces a.channels n frames) i in
       let at : 0 + i ≡ i = zero-add i in
-      let many : length gone ≡ length a.taps = length-gone a.channels (series_lines_after a.channels ls (take i xs)) (get_or xs i []) (replicate a.channels (pos 0)) ∙ length-series_lines a.channels ls (take i xs) ∙ sym taps in
-      rw at (rounded-frame (λ z. rounding z w.denominator) a.channels n sums long (λ k. rounding (a.gain_out *ℤ ((a.gain_in *ℤ get_or (get_or xs i []) k (pos 0)) +ℤ sum_of_products (decays a.taps) (channel_of gone k (pos 0)))) (UNIT * UNIT)) i lt (λ k l.
+      let many : length gone ≡ length a.echo.taps = length-gone a.channels (series_lines_after a.channels ls (take i xs)) (get_or xs i []) (replicate a.channels (pos 0)) ∙ length-series_lines a.channels ls (take i xs) ∙ sym taps in
+      rw at (rounded-frame (λ z. rounding z w.denominator) a.channels n sums long (λ k. rounding (a.echo.gain_out *ℤ ((a.echo.gain_in *ℤ get_or (get_or xs i []) k (pos 0)) +ℤ sum_of_products (decays a.echo.taps) (channel_of gone k (pos 0)))) (UNIT * UNIT)) i lt (λ k l.
       ap (λ z. rounding z w.denominator) (h i k lt l ∙ ap (λ x. (get_or w.weights 0 (pos 0) *ℤ x) +ℤ sum_of_products (drop 1 w.weights) (channel_of gone k (pos 0))) (sym (get_or-piece a.channels n frames i k (pos 0) lt l)))
       ∙ suits.sounds (get_or (get_or xs i []) k (pos 0)) (channel_of gone k (pos 0)) (length-map gone (λ f. get_or f k (pos 0)) ∙ many)))
 

@@ -6,7 +6,7 @@ use Rattle.std.specs.Int.{w64}
 use Rattle.std.proofs.lemmas.Int.{fits_signed_from_abs}
 use Rattle.std.proofs.lemmas.List.{length-append, length-drop, length-map, get_or-map}
 use Rattle.std.proofs.lemmas.List.Elements.{All-nil, All-drop, All-push, All-weaker, All-from_get_or, All-get_or}
-use Rattle.fx_tap_delays.specs.DelayExtents.{sum_of_delays}
+use Rattle.fx_tap_delays.specs.DelayExtents.{sum_of_delays, Tap}
 use Rattle.fx_frame_base.specs.Frame.{Samples, silence, IsFrame}
 use Rattle.fx_frame_line.specs.Line.{Frames, IsSamples, pushed_out, empty}
 use Rattle.fx_frame_base.specs.Stage.{Gave}
@@ -26,7 +26,7 @@ series-of : (c came j delay : ℕ) (l : Frames ℤ) → IsEchoLine c came j dela
 series-of c came j delay l is = record { channels_are = is.channels_are; small = is.small }
 
 pub series-lines : (s : EchosState) → IsEchos s → (j : ℕ) → j < length s.lines → IsSeriesLine s.arguments.channels j (line_at s.lines j)
-series-lines s is j lt = series-of s.arguments.channels (came_of s) j (delay_at s.arguments.taps j) (line_at s.lines j) (is.lines j lt)
+series-lines s is j lt = series-of s.arguments.channels (came_of s) j (delay_at s.arguments.echo.taps j) (line_at s.lines j) (is.lines j lt)
 
 push-sound : (c came j delay : ℕ) (l : Frames ℤ) (u : Samples) → j ≤ 6 → IsEchoLine c came j delay l → length u ≡ c → Small ((j + 1) * 2 ^ 31) u → IsEchoLine c (came + 1) j delay (after_push l u)
 push-sound c came j delay l u bound is wide small =
@@ -95,8 +95,8 @@ series_lines-sound c came d ls (x ∷ xs) bound small h j lt =
 
 -- the lines of a state after one frame more
 pub lines-sound : (s : EchosState) (x : Samples) → IsEchos s → Small (2 ^ 31) x → (j : ℕ) → j < length (lines_after s.arguments.channels s.lines x (replicate s.arguments.channels (pos 0)))
-    → IsEchoLine s.arguments.channels (came_of s + 1) j (delay_at s.arguments.taps j) (line_at (lines_after s.arguments.channels s.lines x (replicate s.arguments.channels (pos 0))) j)
-lines-sound s x is xs j lt = series-sound s.arguments.channels (came_of s) (delay_at s.arguments.taps) s.lines x (let bound = is.arguments.taps_max in let many = is.as_many in omega arith) xs is.lines j lt
+    → IsEchoLine s.arguments.channels (came_of s + 1) j (delay_at s.arguments.echo.taps j) (line_at (lines_after s.arguments.channels s.lines x (replicate s.arguments.channels (pos 0))) j)
+lines-sound s x is xs j lt = series-sound s.arguments.channels (came_of s) (delay_at s.arguments.echo.taps) s.lines x (let bound = is.arguments.taps_max in let many = is.as_many in omega arith) xs is.lines j lt
 
 -- ---- places and frames
 
@@ -107,7 +107,7 @@ frames-bound (l ∷ ls) h =
     let more = frames-bound ls (λ j lt. h (suc j) (omega arith)) in
     omega (arith, length-append l.items (frames_of_lines ls))
 
-places-are : (es : List (ℕ × ℤ)) (ls : List (Frames ℤ)) → length ls ≡ length es → ((j : ℕ) → j < length ls → (line_at ls j).capacity ≡ delay_at es j) → echo_places ls ≡ sum_of_delays es
+places-are : (es : List Tap) (ls : List (Frames ℤ)) → length ls ≡ length es → ((j : ℕ) → j < length ls → (line_at ls j).capacity ≡ delay_at es j) → echo_places ls ≡ sum_of_delays es
 places-are [] [] many h = refl
 places-are [] (l ∷ ls) many h = absurd (omega arith)
 places-are (e ∷ es) [] many h = absurd (omega arith)
@@ -116,10 +116,10 @@ places-are (e ∷ es) (l ∷ ls) many h =
     let more = places-are es ls (omega arith) (λ j lt. h (suc j) (omega arith)) in
     omega arith
 
-pub places-late : (s : EchosState) → IsEchos s → echo_places s.lines ≡ sum_of_delays s.arguments.taps
-places-late s is = places-are s.arguments.taps s.lines is.as_many (λ j lt. (is.lines j lt).capacity)
+pub places-late : (s : EchosState) → IsEchos s → echo_places s.lines ≡ sum_of_delays s.arguments.echo.taps
+places-late s is = places-are s.arguments.echo.taps s.lines is.as_many (λ j lt. (is.lines j lt).capacity)
 
-pub frames-late : (s : EchosState) → IsEchos s → length (frames_of_lines s.lines) ≤ sum_of_delays s.arguments.taps
+pub frames-late : (s : EchosState) → IsEchos s → length (frames_of_lines s.lines) ≤ sum_of_delays s.arguments.echo.taps
 frames-late s is =
     let bound = frames-bound s.lines (λ j lt. (is.lines j lt).line.within) in
     let all = places-late s is in
@@ -178,7 +178,7 @@ pub Gave-silence : (s : EchosState) (lines : List (Frames ℤ)) (silent_frame ou
     → out ≡ (frame_of_lines s.arguments silent_frame (series_gone s silent_frame)).samples → clips ≡ (frame_of_lines s.arguments silent_frame (series_gone s silent_frame)).clips → length out ≡ s.arguments.channels → Gave echos_acts s (drained_echos s lines clips) out
 Gave-silence s lines silent_frame out clips is none some q lines_are out_is clips_are long =
     let over = ended-tail s is some in
-    let counted : s.core.given + 0 + s.tail ≡ s.core.taken + sum_of_delays s.arguments.taps = rw (none, over) at is.counted in
+    let counted : s.core.given + 0 + s.tail ≡ s.core.taken + sum_of_delays s.arguments.echo.taps = rw (none, over) at is.counted in
     record {
       was_wet = dry-tail s.core.pending s.tail some;
       gives = record {
@@ -195,7 +195,7 @@ Gave-silence s lines silent_frame out clips is none some q lines_are out_is clip
 pub IsEchos-drained : (s : EchosState) (lines : List (Frames ℤ)) (silent_frame : Samples) (clips : ℕ) → IsEchos s → s.core.pending ≡ None → 0 < s.tail → Small (2 ^ 31) silent_frame → lines ≡ series_after s silent_frame → clips ≤ 16 → IsEchos (drained_echos s lines clips)
 IsEchos-drained s lines silent_frame clips is none some small lines_are clips_bound =
     let over = ended-tail s is some in
-    let counted : s.core.given + 0 + s.tail ≡ s.core.taken + sum_of_delays s.arguments.taps = rw (none, over) at is.counted in
+    let counted : s.core.given + 0 + s.tail ≡ s.core.taken + sum_of_delays s.arguments.echo.taps = rw (none, over) at is.counted in
     let came : s.core.given + 0 + 1 ≡ s.core.given + 1 + 0 = omega arith in
     let sound = rw (none, came) at (lines-sound s silent_frame is small) in
     let bound = is.core.clips_max in
@@ -211,7 +211,7 @@ IsEchos-drained s lines silent_frame clips is none some small lines_are clips_bo
 
 -- ---- a new one
 
-pub late-each : (es : List (ℕ × ℤ)) (k : ℕ) (d : ℕ × ℤ) → k < length es → (get_or es k d).0 ≤ sum_of_delays es
+pub late-each : (es : List Tap) (k : ℕ) (d : Tap) → k < length es → (get_or es k d).0 ≤ sum_of_delays es
 late-each [] k d lt = absurd (omega arith)
 late-each (e ∷ es) zero d lt = omega arith
 late-each (e ∷ es) (suc k) d lt = let more = late-each es k d (omega arith) in omega arith
@@ -226,17 +226,17 @@ empty-line c j d some bound late small = record {
   small = All-nil (All (λ x. unsigned_abs x ≤ (j + 1) * 2 ^ 31));
 }
 
-pub IsEchos-new : (a : EchoArguments) → IsEcho a → sum_of_delays a.taps ≤ 2 ^ 28 → IsEchos (record { arguments = a; lines = map (λ e. empty a.channels e.0) a.taps; core = new_core; tail = 0 })
+pub IsEchos-new : (a : EchoArguments) → IsEcho a → sum_of_delays a.echo.taps ≤ 2 ^ 28 → IsEchos (record { arguments = a; lines = map (λ e. empty a.channels e.0) a.echo.taps; core = new_core; tail = 0 })
 IsEchos-new a is whole = record {
   arguments = is;
   whole = whole;
-  as_many = length-map a.taps _;
+  as_many = length-map a.echo.taps _;
   lines = λ j lt.
-      let long = length-map a.taps (λ e. empty {X = ℤ} a.channels e.0) in
-      let within : j < length a.taps = omega (arith, long, lt) in
-      let maximum = late-each a.taps j (0, pos 0) within in
-      rw (get_or-map (λ e. empty {X = ℤ} a.channels e.0) a.taps j (0, pos 0) (empty {X = ℤ} 0 0) within)
-      (empty-line a.channels j (delay_at a.taps j) is.some is.bound (All-get_or (λ e. 1 ≤ e.0) a.taps j (0, pos 0) within is.delays) (omega arith));
+      let long = length-map a.echo.taps (λ e. empty {X = ℤ} a.channels e.0) in
+      let within : j < length a.echo.taps = omega (arith, long, lt) in
+      let maximum = late-each a.echo.taps j (0, pos 0) within in
+      rw (get_or-map (λ e. empty {X = ℤ} a.channels e.0) a.echo.taps j (0, pos 0) (empty {X = ℤ} 0 0) within)
+      (empty-line a.channels j (delay_at a.echo.taps j) is.some is.bound (All-get_or (λ e. 1 ≤ e.0) a.echo.taps j (0, pos 0) within is.delays) (omega arith));
   counted = refl;
   not_ended = λ e. refl;
   core = record {
@@ -250,6 +250,6 @@ IsEchos-new a is whole = record {
 }
 
 -- no frame is stored
-pub frames-none : (c : ℕ) (es : List (ℕ × ℤ)) → frames_of_lines (map (λ e. empty c e.0) es) ++ [] ≡ []
+pub frames-none : (c : ℕ) (es : List Tap) → frames_of_lines (map (λ e. empty c e.0) es) ++ [] ≡ []
 frames-none c [] = refl
 frames-none c (e ∷ es) = frames-none c es

@@ -4,7 +4,7 @@ use Rattle.std.proofs.lemmas.Bool.Decides.{nat_tests}
 use Rattle.std.proofs.lemmas.Int.{ints}
 use Rattle.std.proofs.lemmas.List.{drop_more, take_more, length-append, length-take, length-replicate, drop-append-le}
 use borrow.Author.Tests.{ltb-true, ltb-false}
-use Rattle.fx_tap_delays.specs.DelayExtents.{sum_of_delays}
+use Rattle.fx_tap_delays.specs.DelayExtents.{sum_of_delays, Tap}
 use Rattle.fx_fixed.specs.Rounding.{rounding}
 use Rattle.fx_fixed.specs.declared.gains.TheConstants.{UNIT}
 use Rattle.fx_frame_base.specs.Frame.{Samples, silence}
@@ -57,12 +57,12 @@ drop-table f (suc j) from (suc count) h =
 
 -- ---- how late
 
-late-append : (es fs : List (ℕ × ℤ)) → sum_of_delays (es ++ fs) ≡ sum_of_delays es + sum_of_delays fs
+late-append : (es fs : List Tap) → sum_of_delays (es ++ fs) ≡ sum_of_delays es + sum_of_delays fs
 late-append [] fs = omega arith
 late-append (e ∷ es) fs = let more = late-append es fs in omega arith
 
 -- one line more makes all echoes later
-way-more : (es : List (ℕ × ℤ)) (i j : ℕ) → i ≤ j → j < length es → way es i (suc j) ≡ way es i j + delay_at es j
+way-more : (es : List Tap) (i j : ℕ) → i ≤ j → j < length es → way es i (suc j) ≡ way es i j + delay_at es j
 way-more es i j h lt =
     let one : suc j ≡ j + 1 = omega arith in
     let cut = take_more es j (0, pos 0) lt in
@@ -70,7 +70,7 @@ way-more es i j h lt =
     ap (λ n. sum_of_delays (drop i (take n es))) one ∙ ap (λ l. sum_of_delays (drop i l)) cut ∙ ap sum_of_delays (drop-append-le i (take j es) (get_or es j (0, pos 0) ∷ []) free)
     ∙ late-append (drop i (take j es)) (get_or es j (0, pos 0) ∷ []) ∙ omega arith
 
-way-none : (es : List (ℕ × ℤ)) (j : ℕ) → way es j j ≡ 0
+way-none : (es : List Tap) (j : ℕ) → way es j j ≡ 0
 way-none [] zero = refl
 way-none [] (suc j) = refl
 way-none (e ∷ es) zero = refl
@@ -101,11 +101,11 @@ before-now w n k =
     rw (le, at) refl
 
 -- what comes out of one line more is the frame and what went into it, so many frames ago
-passed-early : (w : List Samples) (es : List (ℕ × ℤ)) (n j k : ℕ) → j < length es → n < delay_at es j → passed es (sample_before w n) (suc j) k ≡ pos 0
+passed-early : (w : List Samples) (es : List Tap) (n j k : ℕ) → j < length es → n < delay_at es j → passed es (sample_before w n) (suc j) k ≡ pos 0
 passed-early w es n j k lt early =
     sum-zero (λ i. sample_before w n (way es i (suc j)) k) (suc j) (λ i l. before-none w n (way es i (suc j)) k (let more = way-more es i j (omega arith) lt in omega arith))
 
-passed-more : (w : List Samples) (es : List (ℕ × ℤ)) (n j k : ℕ) → j < length es → delay_at es j ≤ n
+passed-more : (w : List Samples) (es : List Tap) (n j k : ℕ) → j < length es → delay_at es j ≤ n
     → passed es (sample_before w n) (suc j) k ≡ sample_before w (n - delay_at es j) 0 k +ℤ passed es (sample_before w (n - delay_at es j)) j k
 passed-more w es n j k lt h =
     let d : ℕ = delay_at es j in
@@ -117,7 +117,7 @@ passed-more w es n j k lt h =
 
 -- ---- the lines, after n frames of a sound
 
-module _ (c : ℕ) (w : List Samples) (es : List (ℕ × ℤ)) where
+module _ (c : ℕ) (w : List Samples) (es : List Tap) where
   -- what the line at place j takes with frame n
   abbrev taken_at : ℕ → ℕ → Samples
   taken_at j n = tabulate (λ k. sample_before w n 0 k +ℤ passed es (sample_before w n) j k) 0 c
@@ -192,20 +192,20 @@ module _ (c : ℕ) (w : List Samples) (es : List (ℕ × ℤ)) where
 history-same : (a : EchoArguments) (p q : History) → ((d k : ℕ) → p d k ≡ q d k) → echos_frame a p ≡ echos_frame a q
 history-same a p q h = ap (echos_frame a) (let e : p ≡ q = λ i d k. h d k i in e)
 
-module _ (a : EchoArguments) (w : List Samples) (some : (i : ℕ) → i < length a.taps → 1 ≤ delay_at a.taps i) where
+module _ (a : EchoArguments) (w : List Samples) (some : (i : ℕ) → i < length a.echo.taps → 1 ≤ delay_at a.echo.taps i) where
   abbrev series_lines_at : ℕ → List (Frames ℤ)
-  series_lines_at n = tabulate (series_line a.channels w a.taps n) 0 (length a.taps)
+  series_lines_at n = tabulate (series_line a.channels w a.echo.taps n) 0 (length a.echo.taps)
 
-  silent-gone : (n : ℕ) → IsGone a.channels w a.taps n 0 (replicate a.channels (pos 0))
+  silent-gone : (n : ℕ) → IsGone a.channels w a.echo.taps n 0 (replicate a.channels (pos 0))
   silent-gone n k l = zeros-sample a.channels k
 
   frame-is : (n : ℕ) → frame_of_lines a (get_or w n []) (let_go a.channels (series_lines_at n) (get_or w n []) (replicate a.channels (pos 0))) ≡ echos_frame a (sample_before w n)
   frame-is n =
-      let step = series-step a.channels w a.taps n 0 (length a.taps) (replicate a.channels (pos 0)) some (omega arith) (silent-gone n) in
+      let step = series-step a.channels w a.echo.taps n 0 (length a.echo.taps) (replicate a.channels (pos 0)) some (omega arith) (silent-gone n) in
       ap given_samples (tabulate-same _ _ 0 0 a.channels (λ k l.
-      ap (λ z. rounding (a.gain_out *ℤ z) (UNIT * UNIT))
-      (ap (λ z. (a.gain_in *ℤ get_or (get_or w n []) (0 + k) (pos 0)) +ℤ sum_of_products (decays a.taps) z) (step.1 (0 + k) (rw zero-add l))
-      ∙ ap (λ z. (a.gain_in *ℤ z) +ℤ sum_of_products (decays a.taps) (tabulate (λ i. passed a.taps (sample_before w n) (suc i) (0 + k)) 0 (length a.taps))) (sym (before-now w n (0 + k))))))
+      ap (λ z. rounding (a.echo.gain_out *ℤ z) (UNIT * UNIT))
+      (ap (λ z. (a.echo.gain_in *ℤ get_or (get_or w n []) (0 + k) (pos 0)) +ℤ sum_of_products (decays a.echo.taps) z) (step.1 (0 + k) (rw zero-add l))
+      ∙ ap (λ z. (a.echo.gain_in *ℤ z) +ℤ sum_of_products (decays a.echo.taps) (tabulate (λ i. passed a.echo.taps (sample_before w n) (suc i) (0 + k)) 0 (length a.echo.taps))) (sym (before-now w n (0 + k))))))
 
   -- frames that come after n frames of the sound
   run-is : (n : ℕ) (xs : List Samples) → drop n w ≡ xs → n + length xs ≡ length w → through_lines a (series_lines_at n) xs ≡ tabulate (λ m. echos_frame a (sample_before w m)) n (length xs)
@@ -217,7 +217,7 @@ module _ (a : EchoArguments) (w : List Samples) (some : (i : ℕ) → i < length
       let first : get_or w n [] ≡ x = cc in
       let left : drop (n + 1) w ≡ xs = cc in
       let one : n + 1 ≡ suc n = omega arith in
-      let step = series-step a.channels w a.taps n 0 (length a.taps) (replicate a.channels (pos 0)) some (omega arith) (silent-gone n) in
+      let step = series-step a.channels w a.echo.taps n 0 (length a.echo.taps) (replicate a.channels (pos 0)) some (omega arith) (silent-gone n) in
       let rest = run-is (n + 1) xs left (omega arith) in
       let frame = frame-is n in
       rw (← first) (
@@ -226,7 +226,7 @@ module _ (a : EchoArguments) (w : List Samples) (some : (i : ℕ) → i < length
       ∙ ap (λ ys. echos_frame a (sample_before w n) ∷ ys) (rest ∙ ap (λ m. tabulate (λ m. echos_frame a (sample_before w m)) m (length xs)) one))
 
 -- lines without a frame
-series_lines-empty : (c : ℕ) (es : List (ℕ × ℤ)) (f : ℕ → Frames ℤ) (from : ℕ) → ((i : ℕ) → i < length es → f (from + i) ≡ empty c (delay_at es i)) → tabulate f from (length es) ≡ map (λ e. empty c e.0) es
+series_lines-empty : (c : ℕ) (es : List Tap) (f : ℕ → Frames ℤ) (from : ℕ) → ((i : ℕ) → i < length es → f (from + i) ≡ empty c (delay_at es i)) → tabulate f from (length es) ≡ map (λ e. empty c e.0) es
 series_lines-empty c [] f from h = refl
 series_lines-empty c (e ∷ es) f from h =
     let here : f from ≡ empty c e.0 = simp add-zero at (h 0 (omega arith)) in
@@ -236,17 +236,17 @@ series_lines-empty c (e ∷ es) f from h =
     rw here (ap (λ l. empty c e.0 ∷ l) (series_lines-empty c es f (suc from) more))
 
 -- with empty lines it is the whole list
-pub through-all : (a : EchoArguments) (z : List Samples) → ((i : ℕ) → i < length a.taps → 1 ≤ delay_at a.taps i)
-    → through_lines a (map (λ e. empty a.channels e.0) a.taps) (z ++ replicate (sum_of_delays a.taps) (silence a.channels)) ≡ echos a z
+pub through-all : (a : EchoArguments) (z : List Samples) → ((i : ℕ) → i < length a.echo.taps → 1 ≤ delay_at a.echo.taps i)
+    → through_lines a (map (λ e. empty a.channels e.0) a.echo.taps) (z ++ replicate (sum_of_delays a.echo.taps) (silence a.channels)) ≡ echos a z
 through-all a z some =
-    let w : List Samples = z ++ replicate (sum_of_delays a.taps) (silence a.channels) in
-    let long : length w ≡ length z + sum_of_delays a.taps = length-append z (replicate (sum_of_delays a.taps) (silence a.channels)) ∙ ap (λ n. length z + n) (length-replicate (sum_of_delays a.taps) (silence a.channels)) in
-    let start : series_lines_at a w some 0 ≡ map (λ e. empty a.channels e.0) a.taps = series_lines-empty a.channels a.taps (series_line a.channels w a.taps 0) 0 (λ i l.
+    let w : List Samples = z ++ replicate (sum_of_delays a.echo.taps) (silence a.channels) in
+    let long : length w ≡ length z + sum_of_delays a.echo.taps = length-append z (replicate (sum_of_delays a.echo.taps) (silence a.channels)) ∙ ap (λ n. length z + n) (length-replicate (sum_of_delays a.echo.taps) (silence a.channels)) in
+    let start : series_lines_at a w some 0 ≡ map (λ e. empty a.channels e.0) a.echo.taps = series_lines-empty a.channels a.echo.taps (series_line a.channels w a.echo.taps 0) 0 (λ i l.
     let at : 0 + i ≡ i = omega arith in
-    let none : min 0 (delay_at a.taps i) ≡ 0 = omega arith in
+    let none : min 0 (delay_at a.echo.taps i) ≡ 0 = omega arith in
     rw (at, none) refl) in
     rw (← start) (
     run-is a w some 0 w refl (omega arith)
     ∙ ap (tabulate (λ m. echos_frame a (sample_before w m)) 0) long
-    ∙ tabulate-same _ _ 0 0 (length z + sum_of_delays a.taps) (λ n l. history-same a (sample_before w (0 + n)) (sample_before z (0 + n)) (λ d k.
-    ap (λ s. cond (nat_le d (0 + n)) s (pos 0)) (silence-after z (sum_of_delays a.taps) a.channels (0 + n - d) k))))
+    ∙ tabulate-same _ _ 0 0 (length z + sum_of_delays a.echo.taps) (λ n l. history-same a (sample_before w (0 + n)) (sample_before z (0 + n)) (λ d k.
+    ap (λ s. cond (nat_le d (0 + n)) s (pos 0)) (silence-after z (sum_of_delays a.echo.taps) a.channels (0 + n - d) k))))

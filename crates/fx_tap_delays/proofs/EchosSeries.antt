@@ -128,9 +128,9 @@ bound-more p c k S S' d g decay small bound added left = bound-by p c k S S' d g
 
 -- ---- the frame that is given, and the frames that are stored
 
-pub echoed-is : (a : EchoArguments) (x sums : Samples) (gone : List Samples) → ((k : ℕ) → k < a.channels → slice_index_or sums k (pos 0) ≡ (a.gain_in *ℤ slice_index_or x k (pos 0)) +ℤ sum_of_products (decays a.taps) (channel_of gone k (pos 0)))
-    → given_samples (tabulate (λ k. rounding (a.gain_out *ℤ slice_index_or sums k (pos 0)) (UNIT * UNIT)) 0 a.channels) ≡ frame_of_lines a x gone
-echoed-is a x sums gone h = ap given_samples (tabulate-same _ _ 0 0 a.channels (λ k l. ap (λ z. rounding (a.gain_out *ℤ z) (UNIT * UNIT)) (h (0 + k) (rw zero-add l))))
+pub echoed-is : (a : EchoArguments) (x sums : Samples) (gone : List Samples) → ((k : ℕ) → k < a.channels → slice_index_or sums k (pos 0) ≡ (a.echo.gain_in *ℤ slice_index_or x k (pos 0)) +ℤ sum_of_products (decays a.echo.taps) (channel_of gone k (pos 0)))
+    → given_samples (tabulate (λ k. rounding (a.echo.gain_out *ℤ slice_index_or sums k (pos 0)) (UNIT * UNIT)) 0 a.channels) ≡ frame_of_lines a x gone
+echoed-is a x sums gone h = ap given_samples (tabulate-same _ _ 0 0 a.channels (λ k l. ap (λ z. rounding (a.echo.gain_out *ℤ z) (UNIT * UNIT)) (h (0 + k) (rw zero-add l))))
 
 pub get-left : (xs ys : List Samples) (i : ℕ) → i < length xs → slice_get (xs ++ ys) i ≡ slice_get xs i
 get-left [] ys i h = absurd (omega arith)

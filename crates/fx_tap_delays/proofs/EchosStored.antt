@@ -8,6 +8,7 @@ use Rattle.fx_frame_base.specs.Frame.{Samples}
 use Rattle.fx_frame.specs.Frozen.{line_of}
 use Rattle.fx_frame_line.specs.Line.{Frames, IsLine, empty}
 use Rattle.fx_tap_delays.specs.EchosState.{IsEchoLine, delay_at, frames_of_lines, line_at}
+use Rattle.fx_tap_delays.specs.DelayExtents.{Tap}
 use Rattle.fx_tap_delays.specs.EchosStored.{IsSeries, IsSmall}
 
 -- a line of these frames
@@ -15,24 +16,24 @@ pub same-line : (l : Frames ℤ) (channels delay : ℕ) (part : List Samples) �
 same-line l channels delay part items capacity channels_are = rw (← items, ← capacity, ← channels_are) refl
 
 -- the delay at a place, whatever stands in for no echo
-pub delay-is : (es : List (ℕ × ℤ)) (i : ℕ) (d : ℕ × ℤ) → i < length es → (get_or es i d).0 ≡ delay_at es i
+pub delay-is : (es : List Tap) (i : ℕ) (d : Tap) → i < length es → (get_or es i d).0 ≡ delay_at es i
 delay-is [] i d lt = absurd (omega arith)
 delay-is (e ∷ es) zero d lt = refl
 delay-is (e ∷ es) (suc i) d lt = delay-is es i d (omega arith)
 
 -- how many frames the line at a place holds
-abbrev pub held_at : ℕ → List (ℕ × ℤ) → ℕ → ℕ
+abbrev pub held_at : ℕ → List Tap → ℕ → ℕ
 held_at came taps i = min came (delay_at taps i)
 
 -- the line at a place, where these frames are left for it and those behind it
-pub record IsNext (channels came : ℕ) (taps : List (ℕ × ℤ)) (lines : List (Frames ℤ)) (rest : List Samples) (i : ℕ) : Type 0 where
+pub record IsNext (channels came : ℕ) (taps : List Tap) (lines : List (Frames ℤ)) (rest : List Samples) (i : ℕ) : Type 0 where
   pub here : IsEchoLine channels came i (delay_at taps i) (line_at lines i)
   pub free : held_at came taps i ≤ length rest
   pub is_line : line_at lines i ≡ line_of channels (delay_at taps i) (take (held_at came taps i) rest)
   pub left : frames_of_lines (drop (i + 1) lines) ≡ drop (held_at came taps i) rest
   pub more : take (i + 1) lines ≡ take i lines ++ line_at lines i ∷ []
 
-pub next-line : (channels came : ℕ) (taps : List (ℕ × ℤ)) (lines : List (Frames ℤ)) (rest : List Samples) (i : ℕ) → IsSeries channels came taps lines → i < length taps → frames_of_lines (drop i lines) ≡ rest → IsNext channels came taps lines rest i
+pub next-line : (channels came : ℕ) (taps : List Tap) (lines : List (Frames ℤ)) (rest : List Samples) (i : ℕ) → IsSeries channels came taps lines → i < length taps → frames_of_lines (drop i lines) ≡ rest → IsNext channels came taps lines rest i
 next-line channels came taps lines rest i series lt e =
     let many = series.as_many in
     let within : i < length lines = omega arith in
@@ -77,5 +78,5 @@ thawed-sound channels came j delay l part e lined small some long = record {
 }
 
 -- no line is left behind the last
-pub none-left : (channels came : ℕ) (taps : List (ℕ × ℤ)) (lines : List (Frames ℤ)) (i : ℕ) → IsSeries channels came taps lines → length taps ≤ i → frames_of_lines (drop i lines) ≡ []
+pub none-left : (channels came : ℕ) (taps : List Tap) (lines : List (Frames ℤ)) (i : ℕ) → IsSeries channels came taps lines → length taps ≤ i → frames_of_lines (drop i lines) ≡ []
 none-left channels came taps lines i series over = ap frames_of_lines (drop_all i lines (let many = series.as_many in omega arith))

@@ -27,7 +27,7 @@ pub record AreEchosCounts (whole stored : ℕ) (n : TailNumbers) : Type 0 where
 
 module _ (s : EchosState) (a : EchoArguments) (frames : List Samples) (numbers : List ℕ) (is : IsEchos s) (made : s.arguments ≡ a) (froze : Freezes echos_acts s frames numbers) where
   -- a stage of these arguments that froze to these frames and numbers has such counts
-  pub counts-are : AreEchosCounts (sum_of_delays a.taps) (length frames) (by_name numbers)
+  pub counts-are : AreEchosCounts (sum_of_delays a.echo.taps) (length frames) (by_name numbers)
   counts-are =
       let all : length (frames_of_lines s.lines ++ pending_frames s.core) ≡ length (frames_of_lines s.lines) + length (pending_frames s.core) = length-append (frames_of_lines s.lines) (pending_frames s.core) in
       rw (froze.counted, ← made)
@@ -37,7 +37,7 @@ module _ (s : EchosState) (a : EchoArguments) (frames : List Samples) (numbers :
         pending_count_held = omega (arith, all);
         bound = is.core.bound;
         not_ended = λ z. is.not_ended (flag-false s.core.ended z);
-        counted = is.counted ∙ ap (λ n. s.core.taken + n) (flag-times s.core.ended (sum_of_delays s.arguments.taps));
+        counted = is.counted ∙ ap (λ n. s.core.taken + n) (flag-times s.core.ended (sum_of_delays s.arguments.echo.taps));
         clips_max = is.core.clips_max;
         pending_max = is.core.pending_max;
         idle = is.core.idle;
@@ -45,7 +45,7 @@ module _ (s : EchosState) (a : EchoArguments) (frames : List Samples) (numbers :
       }
 
   -- its lines and the frame in hand are stored
-  pub series-is : IsSeriesStored a.channels (slice_index_or numbers 1 0 + slice_index_or numbers 6 0) a.taps (slice_index_or numbers 6 0) frames s.lines s.core.pending
+  pub series-is : IsSeriesStored a.channels (slice_index_or numbers 1 0 + slice_index_or numbers 6 0) a.echo.taps (slice_index_or numbers 6 0) frames s.lines s.core.pending
   series-is = rw (froze.counted, ← made) record {
     series = record { as_many = is.as_many; lines_are = is.lines };
     held = is.core.fits;

@@ -3,7 +3,7 @@
 use Rattle.std.specs.Prelude.{ℕ, ℤ, pos, ◌+◌, ◌*◌, ◌+ℤ◌, ◌*ℤ◌, ◌≤◌, unsigned_abs, Bool, List, [], ◌∷◌, length, map, ◌^◌}
 use Rattle.std.specs.List.{All}
 use Rattle.fx_fixed.specs.Extents.{largest}
-use Rattle.fx_tap_delays.specs.DelayExtents.{tap_delay}
+use Rattle.fx_tap_delays.specs.DelayExtents.{Tap, tap_delay}
 use Rattle.fx_fixed.specs.Rounding.{rounding}
 use Rattle.fx_fixed.specs.declared.gains.TheConstants.{UNIT}
 use Rattle.fx_frame_base.specs.Frame.{Samples}
@@ -13,48 +13,56 @@ use Rattle.fx_frame_base.specs.Given.{given_samples}
 use Rattle.fx_frame.specs.History.{History, sample_before}
 use Rattle.fx_frame.specs.Kinds.{tap_kind}
 
--- what an `echo` is made with; gains and decays are in trillionths
-pub record EchoArguments : Type 0 where
-  pub channels : ℕ
+-- what an `echo` or `echos` does; gains are in trillionths
+pub record EchoValue : Type 0 where
+  -- of each frame
   pub gain_in : ℤ
+  -- of the frame and its echoes, added
   pub gain_out : ℤ
-  -- of each echo its delay in frames, and its decay
-  pub taps : List (ℕ × ℤ)
+  -- of each echo its delay and its decay
+  pub taps : List Tap
 
--- the arguments of an `echo`, or of an `echos`, with these channels, gains and echoes
-abbrev pub echo_with : ℕ → ℤ → ℤ → List (ℕ × ℤ) → EchoArguments
-echo_with channels gain_in gain_out taps = record { channels = channels; gain_in = gain_in; gain_out = gain_out; taps = taps }
+-- what an `echo` or `echos` is made with
+pub record EchoArguments : Type 0 where
+  -- of each frame
+  pub channels : ℕ
+  -- what it does
+  pub echo : EchoValue
+
+-- the arguments of an `echo`, or of an `echos`, with these channels, gains and taps
+abbrev pub echo_with : ℕ → ℤ → ℤ → List Tap → EchoArguments
+echo_with channels gain_in gain_out taps = record { channels = channels; echo = record { gain_in = gain_in; gain_out = gain_out; taps = taps } }
 
 -- its invariant
 pub record IsEcho (a : EchoArguments) : Type 0 where
   pub some : 1 ≤ a.channels
   pub bound : a.channels ≤ 16
-  pub gain_in : unsigned_abs a.gain_in ≤ UNIT
-  pub taps_max : length a.taps ≤ 7
-  pub delays : All (λ e. 1 ≤ e.0) a.taps
-  pub decays : All (λ e. unsigned_abs e.1 ≤ UNIT) a.taps
+  pub gain_in : unsigned_abs a.echo.gain_in ≤ UNIT
+  pub taps_max : length a.echo.taps ≤ 7
+  pub delays : All (λ e. 1 ≤ e.0) a.echo.taps
+  pub decays : All (λ e. unsigned_abs e.1 ≤ UNIT) a.echo.taps
 
 -- the echoes of channel k, added
-abbrev pub sum_of_taps : List (ℕ × ℤ) → History → ℕ → ℤ
+abbrev pub sum_of_taps : List Tap → History → ℕ → ℤ
 sum_of_taps [] history k = pos 0
 sum_of_taps (e ∷ es) history k = (e.1 *ℤ history e.0 k) +ℤ sum_of_taps es history k
 
 -- channel k and its echoes, added
-abbrev pub echo_sum : EchoArguments → History → ℕ → ℤ
-echo_sum a history k = (a.gain_in *ℤ history 0 k) +ℤ sum_of_taps a.taps history k
+abbrev pub echo_sum : EchoValue → History → ℕ → ℤ
+echo_sum e history k = (e.gain_in *ℤ history 0 k) +ℤ sum_of_taps e.taps history k
 
 -- channel k of the frame with its echoes: one exact fraction, rounded once
-abbrev pub echoed_sample : EchoArguments → History → ℕ → ℤ × Bool
-echoed_sample a history k = rounding (a.gain_out *ℤ echo_sum a history k) (10 ^ 12 * 10 ^ 12)
+abbrev pub echoed_sample : EchoValue → History → ℕ → ℤ × Bool
+echoed_sample e history k = rounding (e.gain_out *ℤ echo_sum e history k) (10 ^ 12 * 10 ^ 12)
 
 -- the frame with its echoes
 abbrev pub echoed_frame : EchoArguments → History → Given
-echoed_frame a history = given_samples (tabulate (echoed_sample a history) 0 a.channels)
+echoed_frame a history = given_samples (tabulate (echoed_sample a.echo history) 0 a.channels)
 
 -- what `echo` gives for a sound
 abbrev pub echo : EchoArguments → List Samples → List Given
-echo a x = tabulate (λ n. echoed_frame a (sample_before x n)) 0 (length x + largest (map tap_delay a.taps))
+echo a x = tabulate (λ n. echoed_frame a (sample_before x n)) 0 (length x + largest (map tap_delay a.echo.taps))
 
 -- what it takes and gives, and when each frame is due
 abbrev pub echo_kind : EchoArguments → StageKind
-echo_kind a = tap_kind a.channels (largest (map tap_delay a.taps))
+echo_kind a = tap_kind a.channels (largest (map tap_delay a.echo.taps))

@@ -10,7 +10,7 @@ use Rattle.fx_tap_delays.specs.Echo.{EchoArguments, echoed_frame, echo}
 
 -- how `echo` makes frames
 abbrev pub echo_taps : Taps EchoArguments
-echo_taps = record { channels = λ a. a.channels; reach = λ a. largest (map tap_delay a.taps); max_clips = λ a. 16; made = echoed_frame }
+echo_taps = record { channels = λ a. a.channels; reach = λ a. largest (map tap_delay a.echo.taps); max_clips = λ a. 16; made = echoed_frame }
 
 -- how the stages of `echo` behave
 abbrev pub echo_acts : Acts (TapState EchoArguments) EchoArguments

@@ -7,26 +7,31 @@ use Rattle.fx_frame_base.specs.Lists.{pieces, tabulate}
 use Rattle.fx_frame_base.specs.Stage.{Given}
 use Rattle.fx_frame_line.specs.Line.{Frames}
 use Rattle.fx_frame.specs.History.{sample_before}
-use Rattle.fx_tap_delays.specs.Echo.{EchoArguments, echo_sum}
+use Rattle.fx_tap_delays.specs.Echo.{EchoArguments, EchoValue, echo_sum}
+use Rattle.fx_tap_delays.specs.DelayExtents.{Tap}
 use Rattle.fx_tap_sums.specs.Weights.{Weights, AreSmall, SoundsAs}
 
--- echoes with those weights in place of the decays
-abbrev pub weighed_taps : List (ℕ × ℤ) → List ℤ → List (ℕ × ℤ)
+-- taps with those weights in place of the decays
+abbrev pub weighed_taps : List Tap → List ℤ → List Tap
 weighed_taps [] weights = []
 weighed_taps (e ∷ es) weights = (e.0, slice_index_or weights 0 (pos 0)) ∷ weighed_taps es (drop 1 weights)
 
 -- an `echo` with those weights in place of gain-in and the decays
-abbrev pub weighed : EchoArguments → List ℤ → EchoArguments
-weighed a weights = record a { gain_in = slice_index_or weights 0 (pos 0); taps = weighed_taps a.taps (drop 1 weights) }
+abbrev pub weighed : EchoValue → List ℤ → EchoValue
+weighed e weights = record e { gain_in = slice_index_or weights 0 (pos 0); taps = weighed_taps e.taps (drop 1 weights) }
+
+-- weights that sound as the gains of an `echo`
+abbrev pub SoundsAsEcho : EchoValue → Weights → Type 0
+SoundsAsEcho e = SoundsAs e.gain_in e.gain_out e.taps
 
 -- weights that an `echos` may take in place of its gains: the output of a line may be as large as eight samples
 pub record Suits (a : EchoArguments) (w : Weights) : Type 0 where
-  pub sounds : SoundsAs a.gain_in a.gain_out a.taps w
+  pub sounds : SoundsAsEcho a.echo w
   pub small : AreSmall (2 ^ 24) w.weights
 
--- a fact of all arguments with so many channels and an echo for each line, which these weights suit
+-- a fact of all arguments with so many channels and a tap for each line, which these weights suit
 abbrev pub ForAllSuited : Weights → ℕ → List (Frames ℤ) → (EchoArguments → Type 0) → Type 0
-ForAllSuited w channels lines P = (a : EchoArguments) → Suits a w → a.channels ≡ channels → length a.taps ≡ length lines → P a
+ForAllSuited w channels lines P = (a : EchoArguments) → Suits a w → a.channels ≡ channels → length a.echo.taps ≡ length lines → P a
 
 -- channel k of a frame with one echo: its sample and the earlier one, each times its weight, added and rounded once
 abbrev pub one_echo_sample : Weights → Samples → Samples → ℕ → ℤ × Bool
@@ -36,7 +41,7 @@ one_echo_sample w came earlier k = rounding ((slice_index_or w.weights 0 (pos 0)
 abbrev pub one_echo_frame : Weights → Samples → Samples → Given
 one_echo_frame w came earlier = given_samples (tabulate (one_echo_sample w came earlier) 0 (length earlier))
 
--- the sums of a frame and its echoes, for each channel of `count` frames, which follow those of the line
-abbrev pub AreEchoSums : EchoArguments → List Samples → ℕ → List ℤ → List ℤ → Type 0
-AreEchoSums a items count frames sums =
-    (i k : ℕ) → i < count → k < a.channels → slice_index_or sums (i * a.channels + k) (pos 0) ≡ echo_sum a (sample_before (items ++ pieces a.channels count frames) (length items + i)) k
+-- the sums of a frame and its echoes, each times its weight, for each channel of `count` frames, which follow those of the line
+abbrev pub AreEchoSums : EchoArguments → List ℤ → List Samples → ℕ → List ℤ → List ℤ → Type 0
+AreEchoSums a weights items count frames sums =
+    (i k : ℕ) → i < count → k < a.channels → slice_index_or sums (i * a.channels + k) (pos 0) ≡ echo_sum (weighed a.echo weights) (sample_before (items ++ pieces a.channels count frames) (length items + i)) k

@@ -1,24 +1,17 @@
 -- The words of `echo` and `echos` (sox(1), EFFECTS, echo and echos): two gains, and 1 to 7 pairs of a delay and a decay.
-use Rattle.std.specs.Prelude.{ℕ, ◌+◌, ◌%◌, nat_le, nat_lt, nat_eq, not, ◌&&◌, ◌||◌, Bool, List, [], ◌∷◌, ◌++◌, length, ℤ, pos, unsigned_abs}
+use Rattle.std.specs.Prelude.{ℕ, ◌+◌, ◌%◌, nat_le, nat_lt, nat_eq, not, ◌&&◌, ◌||◌, Bool, List, [], ◌∷◌, ◌++◌, length, pos, unsigned_abs}
 use Rattle.std.specs.List.{list_all}
 use Rattle.std.specs.Result.{result_unwrap_or}
 use Rattle.fx_fixed.specs.declared.gains.TheConstants.{UNIT}
 use Rattle.fx_plan_words.specs.declared.fault.Mark.{Mark}
 use Rattle.fx_plan_words.specs.declared.fault.PlanCause.TheVariants.{WrongCount}
+use Rattle.fx_tap_delays.specs.DelayExtents.{Tap}
+use Rattle.fx_tap_delays.specs.Echo.{EchoValue}
 use Rattle.fx_tap_delays.specs.declared.echo.words.Echoing.{Echoing}
 use Rattle.fx_plan_words.specs.Faults.{Word, mark, when, fault_at}
 use Rattle.fx_plan_words.specs.Numbers.{gain_up_to, delay_in}
 
--- a delay in frames and its decay
-abbrev pub Tap : Type 0
-Tap = ℕ × ℤ
-
--- two gains and the pairs
-pub record EchoValue : Type 0 where
-  pub gain_in : ℤ
-  pub gain_out : ℤ
-  pub taps : List Tap
-
+-- what these words say
 abbrev pub echo_value : Echoing → EchoValue
 echo_value e = record { gain_in = e.gain_in; gain_out = e.gain_out; taps = e.taps.items }
 

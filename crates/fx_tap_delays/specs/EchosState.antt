@@ -2,7 +2,7 @@
 use Rattle.std.specs.Prelude.{ℕ, ℤ, pos, ◌+◌, ◌*◌, ◌^◌, ◌<◌, ◌≤◌, ◌≡◌, ◌+ℤ◌, ◌*ℤ◌, false, ◌&&◌, Option, Some, None, List, [], ◌∷◌, ◌++◌, length, map, min, replicate, take, is_none, slice_index_or, nat_eq, cond, unsigned_abs, drop, Result}
 use Rattle.std.specs.List.{All}
 use Rattle.std.specs.Int.{w64}
-use Rattle.fx_tap_delays.specs.DelayExtents.{sum_of_delays}
+use Rattle.fx_tap_delays.specs.DelayExtents.{Tap, sum_of_delays}
 use Rattle.fx_fixed.specs.Rounding.{rounding}
 use Rattle.fx_frame_base.specs.declared.stage.ThawFault.{ThawFault}
 use Rattle.fx_frame_base.specs.declared.stage_core.StageCore.{StageCore}
@@ -51,7 +51,7 @@ gone_at channels lines xs i = let_go channels (series_lines_after channels lines
 
 -- the frame that is given for a frame and what the lines output
 abbrev pub frame_of_lines : EchoArguments → Samples → List Samples → Given
-frame_of_lines a x gone = given_samples (tabulate (λ k. rounding (a.gain_out *ℤ ((a.gain_in *ℤ slice_index_or x k (pos 0)) +ℤ sum_of_products (decays a.taps) (channel_of gone k (pos 0)))) (10 ^ 12 * 10 ^ 12)) 0 a.channels)
+frame_of_lines a x gone = given_samples (tabulate (λ k. rounding (a.echo.gain_out *ℤ ((a.echo.gain_in *ℤ slice_index_or x k (pos 0)) +ℤ sum_of_products (decays a.echo.taps) (channel_of gone k (pos 0)))) (10 ^ 12 * 10 ^ 12)) 0 a.channels)
 
 -- what is given for frames that come
 abbrev pub through_lines : EchoArguments → List (Frames ℤ) → List Samples → List Given
@@ -85,7 +85,7 @@ abbrev pub came_of : EchosState → ℕ
 came_of s = s.core.given + length (pending_frames s.core)
 
 -- the delay of the line at place j
-abbrev pub delay_at : List (ℕ × ℤ) → ℕ → ℕ
+abbrev pub delay_at : List Tap → ℕ → ℕ
 delay_at taps j = (slice_index_or taps j (0, pos 0)).0
 
 abbrev pub line_at : List (Frames ℤ) → ℕ → Frames ℤ
@@ -94,17 +94,17 @@ line_at lines j = slice_index_or lines j (empty 0 0)
 -- the invariant of the stage
 pub record IsEchos (s : EchosState) : Type 0 where
   pub arguments : IsEcho s.arguments
-  pub whole : sum_of_delays s.arguments.taps ≤ 2 ^ 28
-  pub as_many : length s.lines ≡ length s.arguments.taps
-  pub lines : (j : ℕ) → j < length s.lines → IsEchoLine s.arguments.channels (came_of s) j (delay_at s.arguments.taps j) (line_at s.lines j)
-  pub counted : came_of s + s.tail ≡ s.core.taken + cond s.core.ended (sum_of_delays s.arguments.taps) 0
+  pub whole : sum_of_delays s.arguments.echo.taps ≤ 2 ^ 28
+  pub as_many : length s.lines ≡ length s.arguments.echo.taps
+  pub lines : (j : ℕ) → j < length s.lines → IsEchoLine s.arguments.channels (came_of s) j (delay_at s.arguments.echo.taps j) (line_at s.lines j)
+  pub counted : came_of s + s.tail ≡ s.core.taken + cond s.core.ended (sum_of_delays s.arguments.echo.taps) 0
   pub not_ended : s.core.ended ≡ false → s.tail ≡ 0
   -- what holds of each core
   pub core : IsCore s.arguments.channels 16 s.core
 
 -- the frames that come, with silence where the sound has ended
 abbrev pub echos_coming : EchosState → List Samples → List Samples
-echos_coming s z = cond s.core.ended (replicate s.tail (silence s.arguments.channels)) (z ++ replicate (sum_of_delays s.arguments.taps) (silence s.arguments.channels))
+echos_coming s z = cond s.core.ended (replicate s.tail (silence s.arguments.channels)) (z ++ replicate (sum_of_delays s.arguments.echo.taps) (silence s.arguments.channels))
 
 -- the frames of all lines, from the first line to the last
 abbrev pub frames_of_lines : List (Frames ℤ) → List Samples
@@ -129,8 +129,8 @@ echos_acts = record {
   state_counters = λ s. record { first = s.tail; second = length (pending_frames s.core); third = s.core.pending_clips };
 }
 
--- the invariant of the lines of these echoes after `came` frames came
-abbrev pub AreEchoLines : ℕ → ℕ → List (ℕ × ℤ) → List (Frames ℤ) → Type 0
+-- the invariant of the lines of these taps after `came` frames came
+abbrev pub AreEchoLines : ℕ → ℕ → List Tap → List (Frames ℤ) → Type 0
 AreEchoLines channels came taps lines = (j : ℕ) → j < length lines → IsEchoLine channels came j (delay_at taps j) (line_at lines j)
 
 -- what a frame that comes needs of the lines
@@ -142,7 +142,7 @@ abbrev pub HaveCapacity : ℕ → List (Frames ℤ) → Type 0
 HaveCapacity count lines = (j : ℕ) → j < length lines → count ≤ (line_at lines j).capacity
 
 -- channel k of what the lines output, each times its decay, added
-abbrev pub decayed_sum : List (ℕ × ℤ) → List Samples → ℕ → ℤ
+abbrev pub decayed_sum : List Tap → List Samples → ℕ → ℤ
 decayed_sum taps gone k = sum_of_products (decays taps) (channel_of gone k (pos 0))
 
 -- the frame that is given for one that goes through the lines

@@ -9,8 +9,8 @@ ghost use Rattle.fx_frame_base.specs.Lists.{pieces};
 ghost use Rattle.fx_frame_base.specs.Stage.{Freezes, IsNew};
 ghost use Rattle.fx_tap_delays.specs.Echo.{EchoArguments, IsEcho, echo_sum, echoed_frame, echo_with};
 ghost use Rattle.fx_tap_delays.specs.EchoState.{echo_acts, echo_taps, RestoresEcho};
-ghost use Rattle.fx_tap_sums.specs.Weights.{SoundsAs, AreSmall};
-ghost use Rattle.fx_tap_delays.specs.EchoWeights.{weighed, one_echo_frame, AreEchoSums};
+ghost use Rattle.fx_tap_sums.specs.Weights.{AreSmall};
+ghost use Rattle.fx_tap_delays.specs.EchoWeights.{weighed, one_echo_frame, AreEchoSums, SoundsAsEcho};
 ghost use Rattle.fx_tap_delays.specs.Near.{taps-near};
 ghost use Rattle.fx_tap_delays.specs.Sums.{AddsToEach};
 ghost use Rattle.fx_tap_delays.specs.Tapping.{CountsClips, IsLineFor, history_after};
@@ -48,14 +48,14 @@ pub struct PreparedEcho {
 
 impl Model for PreparedEcho {
     ghost use Rattle.std.specs.Prelude.{IfSome};
-    ghost use Rattle.fx_tap_delays.specs.Echo.{EchoArguments, IsEcho};
+    ghost use Rattle.fx_tap_delays.specs.Echo.{EchoArguments, IsEcho, echo_with};
     ghost use Rattle.fx_tap_sums.specs.Weights.{SoundsAs};
 
     ghost Value = { EchoArguments };
 
-    ghost view = { λ s. record { channels = s.channels; gain_in = s.gain_in; gain_out = s.gain_out; taps = s.taps.items } };
+    ghost view = { λ s. echo_with s.channels s.gain_in s.gain_out s.taps.items };
 
-    ghost invariant = { λ s. IsEcho (record { channels = s.channels; gain_in = s.gain_in; gain_out = s.gain_out; taps = s.taps.items }) × IfSome s.small (SoundsAs s.gain_in s.gain_out s.taps.items) };
+    ghost invariant = { λ s. IsEcho (echo_with s.channels s.gain_in s.gain_out s.taps.items) × IfSome s.small (SoundsAs s.gain_in s.gain_out s.taps.items) };
 }
 
 /// Adds the echo of a frame that comes after those of the line.
@@ -94,7 +94,7 @@ impl PreparedEcho {
     /// A sample of a frame that comes after those of the line, and its echoes, each times its weight, added.
     #[inline(always)]
     fn small_sum(&self, small: &SmallWeights, line: &Line, frame: &[i32], channel: usize) -> i64
-        ensures value { result ≡ echo_sum (weighed self.now small.now.weights) (history_after line.now.items frame.now) channel }
+        ensures value { result ≡ echo_sum (weighed self.now.echo small.now.weights) (history_after line.now.items frame.now) channel }
         ensures small { unsigned_abs result ≤ 2 ^ 61 }
     {
         let mut sum = product(small.weights[0], sample(line, frame, 0, channel));
@@ -109,7 +109,7 @@ impl PreparedEcho {
     /// Writes the samples of a frame that comes after those of the line, with their echoes, and counts how many were clipped.
     #[inline(always)]
     fn small_into(&self, small: &SmallWeights, line: &Line, frame: &[i32], out: &mut [i32]) -> u64
-        requires sounds { SoundsAs self.now.gain_in self.now.gain_out self.now.taps small.now }
+        requires sounds { SoundsAsEcho self.now.echo small.now }
         requires out { length out.old ≡ self.now.channels }
         ensures frame { out.new ≡ (echoed_frame self.now (history_after line.now.items frame.now)).samples }
         ensures clips { result ≡ (echoed_frame self.now (history_after line.now.items frame.now)).clips }
@@ -126,7 +126,7 @@ impl PreparedEcho {
     /// The frame times gain-in, and its echoes, added.
     #[inline(always)]
     fn sums(&self, line: &Line, frame: Frame) -> Sums
-        ensures value { (k : ℕ) → k < self.now.channels → slice_index_or result k (pos 0) ≡ echo_sum self.now (history_after line.now.items frame) k }
+        ensures value { (k : ℕ) → k < self.now.channels → slice_index_or result k (pos 0) ≡ echo_sum self.now.echo (history_after line.now.items frame) k }
         ensures small { AreSmall (8 * (UNIT * 2 ^ 31)) result }
     {
         let mut sums = [0; 16];
@@ -292,12 +292,12 @@ impl PreparedEcho {
         sums: &mut [i64],
     )
         requires channels { line.now.channels ≡ self.now.channels }
-        requires late { All (λ e. count ≤ e.0) self.now.taps }
+        requires late { All (λ e. count ≤ e.0) self.now.echo.taps }
         requires frames { length frames.now ≡ count * self.now.channels }
         requires earlier { length earlier.old ≡ count * self.now.channels }
         requires sums { length sums.old ≡ count * self.now.channels }
         requires empty { (k : ℕ) → slice_index_or sums.old k (pos 0) ≡ pos 0 }
-        ensures value { AreEchoSums (weighed self.now small.now.weights) line.now.items count frames.now sums.new }
+        ensures value { AreEchoSums self.now small.now.weights line.now.items count frames.now sums.new }
         ensures small { AreSmall (2 ^ 61) sums.new }
     {
         add_products(sums, frames, small.weights[0]);
@@ -318,9 +318,9 @@ impl PreparedEcho {
         count: usize,
         out: &mut [i32],
     ) -> u64
-        requires sounds { SoundsAs self.now.gain_in self.now.gain_out self.now.taps small.now }
+        requires sounds { SoundsAsEcho self.now.echo small.now }
         requires channels { line.now.channels ≡ self.now.channels }
-        requires late { All (λ e. count ≤ e.0) self.now.taps }
+        requires late { All (λ e. count ≤ e.0) self.now.echo.taps }
         requires free { count * self.now.channels ≤ 256 }
         requires frames { length frames.now ≡ count * self.now.channels }
         requires out { length out.old ≡ count * self.now.channels }
@@ -367,8 +367,8 @@ impl PreparedEcho {
         samples: &mut [i32],
         came: &mut [i32],
     ) -> u64
-        requires sounds { SoundsAs self.now.gain_in self.now.gain_out self.now.taps small.now }
-        requires one { length self.now.taps ≡ 1 }
+        requires sounds { SoundsAsEcho self.now.echo small.now }
+        requires one { length self.now.echo.taps ≡ 1 }
         requires line { IsLineFor echo_taps self.now line.old }
         requires frame { length samples.old ≡ self.now.channels }
         requires bound { length samples.old ≤ 16 }
@@ -390,8 +390,8 @@ impl PreparedEcho {
     // Where there are one or two channels their number is known to the loops over them.
     #[inline(always)]
     fn one_over(&self, small: &SmallWeights, line: &mut Line, samples: &mut [i32]) -> u64
-        requires sounds { SoundsAs self.now.gain_in self.now.gain_out self.now.taps small.now }
-        requires one { length self.now.taps ≡ 1 }
+        requires sounds { SoundsAsEcho self.now.echo small.now }
+        requires one { length self.now.echo.taps ≡ 1 }
         requires line { IsLineFor echo_taps self.now line.old }
         requires frame { length samples.old ≡ self.now.channels }
         requires bound { length samples.old ≤ 16 }
@@ -413,8 +413,8 @@ impl PreparedEcho {
     // Stack space for sixteen samples is used only where this is called.
     #[inline(never)]
     fn one_through_places(&self, small: &SmallWeights, line: &mut Line, samples: &mut [i32]) -> u64
-        requires sounds { SoundsAs self.now.gain_in self.now.gain_out self.now.taps small.now }
-        requires one { length self.now.taps ≡ 1 }
+        requires sounds { SoundsAsEcho self.now.echo small.now }
+        requires one { length self.now.echo.taps ≡ 1 }
         requires line { IsLineFor echo_taps self.now line.old }
         requires frame { length samples.old ≡ self.now.channels }
         requires bound { length samples.old ≤ 16 }
@@ -442,8 +442,8 @@ impl PreparedEcho {
         samples: &mut [i32],
         count: usize,
     ) -> u64
-        requires sounds { SoundsAs self.now.gain_in self.now.gain_out self.now.taps small.now }
-        requires one { length self.now.taps ≡ 1 }
+        requires sounds { SoundsAsEcho self.now.echo small.now }
+        requires one { length self.now.echo.taps ≡ 1 }
         requires line { IsLineFor echo_taps self.now line.old }
         requires bound { count ≤ 2 ^ 56 }
         requires group { (length samples.old ≤ PLACES) × (PLACES ≤ 64) }
@@ -473,8 +473,8 @@ impl PreparedEcho {
         samples: &mut [i32],
         count: usize,
     ) -> u64
-        requires sounds { SoundsAs self.now.gain_in self.now.gain_out self.now.taps small.now }
-        requires late { All (λ e. count ≤ e.0) self.now.taps }
+        requires sounds { SoundsAsEcho self.now.echo small.now }
+        requires late { All (λ e. count ≤ e.0) self.now.echo.taps }
         requires line { IsLineFor echo_taps self.now line.old }
         requires bound { count ≤ 2 ^ 56 }
         requires group { (length samples.old ≤ PLACES) × (PLACES ≤ 64) }

@@ -45,16 +45,16 @@ pub struct Echos {
 }
 
 impl Model for Echos {
-    ghost use Rattle.fx_tap_delays.specs.Echo.{EchoArguments};
+    ghost use Rattle.fx_tap_delays.specs.Echo.{echo_with};
     ghost use Rattle.std.specs.Prelude.{IfSome};
     ghost use Rattle.fx_tap_delays.specs.EchosState.{EchosState, IsEchos};
     ghost use Rattle.fx_tap_delays.specs.EchoWeights.{Suits};
 
     ghost Value = { EchosState };
 
-    ghost view = { λ s. record { arguments = record { channels = s.channels; gain_in = s.gain_in; gain_out = s.gain_out; taps = s.taps.items }; lines = s.lines.items; core = s.core; tail = s.tail } };
+    ghost view = { λ s. record { arguments = echo_with s.channels s.gain_in s.gain_out s.taps.items; lines = s.lines.items; core = s.core; tail = s.tail } };
 
-    ghost invariant = { λ s. IsEchos (record { arguments = record { channels = s.channels; gain_in = s.gain_in; gain_out = s.gain_out; taps = s.taps.items }; lines = s.lines.items; core = s.core; tail = s.tail }) × IfSome s.small (Suits (record { channels = s.channels; gain_in = s.gain_in; gain_out = s.gain_out; taps = s.taps.items })) };
+    ghost invariant = { λ s. IsEchos (record { arguments = echo_with s.channels s.gain_in s.gain_out s.taps.items; lines = s.lines.items; core = s.core; tail = s.tail }) × IfSome s.small (Suits (echo_with s.channels s.gain_in s.gain_out s.taps.items)) };
 }
 
 /// A frame and what the line before output, added.
@@ -616,7 +616,7 @@ impl Stage for Echos {
 
     ghost sound = { λ s. IsEchos s };
 
-    ghost rises = { λ r. tap_rises (sum_of_delays r.taps) };
+    ghost rises = { λ r. tap_rises (sum_of_delays r.echo.taps) };
 
     fn take(&mut self, frame: Frame) {
         let gains = (self.gain_in, self.gain_out);

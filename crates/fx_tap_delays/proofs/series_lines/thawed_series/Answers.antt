@@ -8,6 +8,7 @@ use Rattle.fx_frame.specs.Frozen.{line_of}
 use Rattle.fx_frame_line.specs.Line.{Frames}
 use Rattle.fx_tap_delays.specs.EchosState.{IsEchoLine, delay_at, line_at}
 use Rattle.fx_tap_delays.proofs.EchosLaws.{late-each}
+use Rattle.fx_tap_delays.specs.DelayExtents.{Tap}
 use Rattle.fx_tap_delays.proofs.EchosStored.{cut-on, delay-is, held_at, next-line, series-pushed, thawed-sound}
 use Rattle.fx_tap_delays.proofs.series_lines.thawed_series.Goals as goal
 
@@ -41,7 +42,7 @@ pub taps-preserved : goal.taps-preserved
 taps-preserved c =
     let channels : ℕ = c.args.channels in
     let came : ℕ = c.args.came in
-    let taps : List (ℕ × ℤ) = c.args.taps.now in
+    let taps : List Tap = c.args.taps.now in
     let place : ℕ = c.taps.place in
     let rest : List Samples = c.taps.rest.now in
     let ls : List (Frames ℤ) = c.taps.lines.items in

@@ -4,6 +4,7 @@ use Rattle.fx_tap_delays.specs.EchoWeights.{weighed_taps}
 use Rattle.fx_tap_delays.proofs.EchoLaws.{echo-first, echo-next, echo-last}
 use Rattle.fx_tap_delays.proofs.EchoPieces.{coming-sample, earlier-sample}
 use Rattle.fx_tap_delays.proofs.EchoWeights.{held-weight, weighed-at, weighed-length}
+use Rattle.fx_tap_delays.specs.DelayExtents.{Tap}
 use Rattle.fx_frame_base.proofs.ChannelPlaces.{within-frames}
 use Rattle.fx_tap_delays.proofs.echo.PreparedEcho.add_piece.Goals as goal
 
@@ -28,7 +29,7 @@ taps-init c =
 
 pub taps-preserved : goal.taps-preserved
 taps-preserved c =
-    let es : List (ℕ × ℤ) = c.self.inside.taps.items in
+    let es : List Tap = c.self.inside.taps.items in
     let ws : List ℤ = c.small.inside.weights in
     let p : ℕ = c.taps.place in
     let ch : ℕ = c.self.inside.channels in
@@ -58,7 +59,7 @@ taps-preserved c =
 
 pub returns-clause-value : goal.returns-clause-value
 returns-clause-value c =
-    let es : List (ℕ × ℤ) = c.self.inside.taps.items in
+    let es : List Tap = c.self.inside.taps.items in
     let ws : List ℤ = c.small.inside.weights in
     let value = rw (← c.self.view_is, ← c.small.view_is) at c.taps.invariant.value in
     let over : length (weighed_taps es (drop 1 ws)) ≤ c.taps.place = rw (weighed-length es (drop 1 ws)) (omega (arith, c.taps-test.false, c.len-place-end.ensures)) in

@@ -16,14 +16,14 @@ channels-preserved c =
     let w : Weights = c.args.small.now in
     let history : History = history_after c.args.line.now.items c.args.frame.now in
     let i : ℕ = c.channels.channel in
-    let f : ℕ → ℤ × Bool = echoed_sample a history in
+    let f : ℕ → ℤ × Bool = echoed_sample a.echo history in
     let y : ℤ = c.round_and_count.result in
     let out : to_z w32 (of_z w32 y) ≡ y = search rules in
     let bound = c.small_sum-sum.ensures.small in
     let held : to_z w64 (of_z w64 c.small_sum-sum.result) ≡ c.small_sum-sum.result = held-in-64 c.small_sum-sum.result (omega (arith, bound)) in
     let whole : c.small.inside.denominator ≡ w.denominator = ap (λ (x : Weights). x.denominator) c.small.view_is in
     let rounded : rounding (to_z w64 (of_z w64 c.small_sum-sum.result)) c.small.inside.denominator ≡ f i =
-    ap (λ z. rounding z c.small.inside.denominator) (held ∙ c.small_sum-sum.ensures.value) ∙ ap (λ d. rounding (echo_sum (weighed a w.weights) history i) d) whole ∙ small-sample a w history i c.requires.sounds in
+    ap (λ z. rounding z c.small.inside.denominator) (held ∙ c.small_sum-sum.ensures.value) ∙ ap (λ d. rounding (echo_sum (weighed a.echo w.weights) history i) d) whole ∙ small-sample a w history i c.requires.sounds in
     let sample : y ≡ (f i).0 = c.round_and_count.ensures.sample ∙ ap (λ r. r.0) rounded in
     let counted : c.round_and_count.new.clips ≡ c.channels.clips + cond (f i).1 1 0 = c.round_and_count.ensures.clips ∙ ap (λ r. c.channels.clips + clip_count r) rounded in
     let inside : i < length c.channels.out = search rules in

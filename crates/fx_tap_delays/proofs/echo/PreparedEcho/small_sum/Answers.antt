@@ -7,6 +7,7 @@ use Rattle.fx_tap_delays.proofs.EchoLaws.{echo-next, echo-last}
 use Rattle.fx_tap_delays.proofs.EchoWeights.{held-weight, weighed-at, weighed-length}
 use Rattle.fx_tap_sums.proofs.SmallSums.{held-in-64, plain-added}
 use Rattle.fx_tap_sums.proofs.Magnitudes.{added-bound}
+use Rattle.fx_tap_delays.specs.DelayExtents.{Tap}
 use Rattle.fx_tap_delays.specs.Tapping.{history_after}
 use Rattle.fx_tap_delays.proofs.echo.PreparedEcho.small_sum.Goals as goal
 
@@ -19,7 +20,7 @@ overflow_add-sum c =
 
 pub taps-init : goal.taps-init
 taps-init c =
-    let es : List (ℕ × ℤ) = c.self.inside.taps.items in
+    let es : List Tap = c.self.inside.taps.items in
     let ws : List ℤ = c.small.inside.weights in
     let history : History = history_after c.args.line.now.items c.args.frame.now in
     let weight = held-weight ws 0 c.small.invariant in
@@ -35,7 +36,7 @@ taps-init c =
 
 pub taps-preserved : goal.taps-preserved
 taps-preserved c =
-    let es : List (ℕ × ℤ) = c.self.inside.taps.items in
+    let es : List Tap = c.self.inside.taps.items in
     let ws : List ℤ = c.small.inside.weights in
     let p : ℕ = c.taps.place in
     let value = rw (← c.self.view_is, ← c.small.view_is) at c.taps.invariant.value in
@@ -59,7 +60,7 @@ taps-preserved c =
 
 pub returns-clause-value : goal.returns-clause-value
 returns-clause-value c =
-    let es : List (ℕ × ℤ) = c.self.inside.taps.items in
+    let es : List Tap = c.self.inside.taps.items in
     let ws : List ℤ = c.small.inside.weights in
     let value = rw (← c.self.view_is, ← c.small.view_is) at c.taps.invariant.value in
     let over : length (weighed_taps es (drop 1 ws)) ≤ c.taps.place = rw (weighed-length es (drop 1 ws)) (omega (arith, c.taps-test.false, c.len-place-end.ensures)) in

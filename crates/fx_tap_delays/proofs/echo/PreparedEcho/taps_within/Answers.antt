@@ -4,8 +4,9 @@ use Rattle.std.proofs.lemmas.List.{length-replicate, length-take-le}
 use Rattle.fx_frame_base.specs.Lists.{pieces}
 use Rattle.fx_frame_base.proofs.Pieces.{length-pieces}
 use Rattle.fx_tap_delays.specs.Echo.{EchoArguments}
-use Rattle.fx_tap_sums.specs.Weights.{SoundsAs, Weights}
+use Rattle.fx_tap_sums.specs.Weights.{Weights}
 use Rattle.fx_tap_delays.proofs.EchoPieces.{piece-clips, piece-frames}
+use Rattle.fx_tap_delays.specs.EchoWeights.{SoundsAsEcho}
 use Rattle.fx_frame_base.proofs.ListPlaces.{zeros-part}
 use Rattle.fx_tap_delays.proofs.echo.PreparedEcho.taps_within.Goals as goal
 
@@ -16,7 +17,7 @@ pub returns : goal.returns
 returns g c =
     let a : EchoArguments = c.args.self.now in
     let w : Weights = record { weights = c.small.inside.weights; denominator = c.small.inside.denominator } in
-    let sounds : SoundsAs a.gain_in a.gain_out a.taps w = rw (← c.small.view_is) at c.requires.sounds in
+    let sounds : SoundsAsEcho a.echo w = rw (← c.small.view_is) at c.requires.sounds in
     let value = rw (← c.small.view_is) at c.add_piece.ensures.value in
     let coming : List (List ℤ) = pieces a.channels c.args.count c.args.samples.now in
     let many = length-pieces a.channels c.args.count c.args.samples.now in

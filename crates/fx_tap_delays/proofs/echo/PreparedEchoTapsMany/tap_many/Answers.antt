@@ -5,7 +5,7 @@ use Rattle.fx_fixed.specs.Extents.{largest}
 use Rattle.fx_tap_delays.specs.DelayExtents.{tap_delay}
 use Rattle.fx_frame_base.specs.Lists.{pieces}
 use Rattle.fx_frame_line.specs.Line.{pushed_all}
-use Rattle.fx_tap_delays.specs.Echo.{EchoArguments}
+use Rattle.fx_tap_delays.specs.Echo.{EchoArguments, echo_with}
 use Rattle.fx_tap_delays.specs.EchoState.{echo_taps}
 use Rattle.fx_tap_delays.specs.Near.{taps-near}
 use Rattle.fx_tap_delays.proofs.Groups.{counted-more, group-end, group-put, group-read, group-rest, made-more}
@@ -23,7 +23,7 @@ slice_bounds-tap_piece-end c =
 
 pub pieces-preserved : goal.pieces-preserved
 pieces-preserved c =
-    let a : EchoArguments = record { channels = c.self.inside.channels; gain_in = c.self.inside.gain_in; gain_out = c.self.inside.gain_out; taps = c.self.inside.taps.items } in
+    let a : EchoArguments = echo_with c.self.inside.channels c.self.inside.gain_in c.self.inside.gain_out c.self.inside.taps.items in
     let ch : ℕ = c.self.inside.channels in
     let done : ℕ = c.pieces.done in
     let n : ℕ = c.min-now.result in
@@ -36,7 +36,7 @@ pieces-preserved c =
     let within : done + n ≤ c.args.count = omega arith in
     let width : done * ch + n * ch - done * ch ≡ n * ch = omega arith in
     let free : c.args.count * ch ≤ length out = omega (arith, asked.output, c.pieces.auto.output) in
-    let long : largest (map tap_delay a.taps) ≤ start.capacity = let e = asked.line.capacity in omega arith in
+    let long : largest (map tap_delay a.echo.taps) ≤ start.capacity = let e = asked.line.capacity in omega arith in
     let part : List ℤ = take (n * ch) (drop (done * ch) c.args.input.now) in
     let more = group-read ch done n c.args.count within c.args.input.now asked.input in
     let ensured = rw (← c.self.view_is, width) at c.tap_piece-clips.ensures in
