@@ -8,14 +8,15 @@ use Rattle.fx_frame_line.specs.Line.{Frames, pushed, IsLine}
 use Rattle.fx_frame_base.specs.Stage.{Freezes, Gave, Took}
 use Rattle.fx_frame_base.specs.StageCore.{after_offering, pending_frames}
 use Rattle.fx_frame_base.specs.Lists.{tabulate}
-use Rattle.fx_frame.specs.Tapped.{AreTapCounts, Taps, TapState, IsTapState, IsNear, given_after, by_name, tapped, tap_acts}
+use Rattle.fx_frame.specs.Tapped.{AreTapCounts, Taps, TapState, IsTapState, IsNear, given_after, tapped, tap_acts}
+use Rattle.fx_frame.specs.Numbers.{by_name}
 use Rattle.fx_frame.specs.History.{sample_before}
 use Rattle.fx_frame_base.proofs.Cores.{IsCore-offered}
-use Rattle.fx_frame.proofs.Counts.{flag-false, flag-times, flag-true}
+use Rattle.fx_frame.proofs.CoreLaws.{AreCoreNumbers-of}
+use Rattle.fx_frame.proofs.Counts.{flag-false, flag-times}
 use Rattle.fx_frame.proofs.DryLaws.{dry-pending, dry-tail}
 use Rattle.fx_frame.proofs.DelayLaws.{sample_before-append, sample_before-drop, silence-after}
 use Rattle.fx_frame_base.proofs.Tabulate.{tabulate-same}
-use Rattle.fx_frame_base.proofs.Flags.{flag-le}
 
 module _ {M : Type 0} (taps : Taps M) (near : IsNear taps) where
   -- one more frame comes
@@ -136,14 +137,9 @@ counts-are taps s m frames numbers is same froze =
     let reach : s.line.capacity ≡ taps.reach m = is.capacity ∙ ap taps.reach same in
     rw froze.counted
     record {
-      flag = flag-le s.core.ended;
-      bound = is.core.bound;
+      core = rw (← same) (AreCoreNumbers-of _ _ s.core is.core);
       all = ap length (sym froze.stored);
       counted = rw (← reach) (is.counted ∙ ap (λ n. s.core.taken + n) (flag-times s.core.ended s.line.capacity));
       held = omega (arith, all, held, reach);
-      idle = is.core.idle;
-      over = λ some. is.core.over (flag-true s.core.ended some);
       not_ended = λ z. is.not_ended (flag-false s.core.ended z);
-      clips_max = rw (← same) is.core.clips_max;
-      pending_max = rw (← same) is.core.pending_max;
     }

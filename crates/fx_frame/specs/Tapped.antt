@@ -1,14 +1,16 @@
 -- A stage whose output frame depends on the input frame and on frames at fixed distances before it (this project's profile).
-use Rattle.std.specs.Prelude.{ℕ, ℤ, ◌+◌, ◌-◌, ◌*◌, ◌≤◌, ◌≡◌, false, ◌&&◌, List, ◌++◌, length, drop, map, min, replicate, is_none, slice_index_or, nat_eq, cond}
+use Rattle.std.specs.Prelude.{ℕ, ℤ, ◌+◌, ◌-◌, ◌*◌, ◌≤◌, ◌≡◌, false, ◌&&◌, List, ◌++◌, length, drop, map, min, replicate, is_none, nat_eq, cond}
 use Rattle.std.proofs.Common.{arith}
 use Rattle.std.specs.Int.{w32}
 use Rattle.fx_frame_base.specs.Frame.{Samples, silence}
 use Rattle.fx_frame_line.specs.Line.{Frames, IsLine}
 use Rattle.fx_frame_base.specs.Holds.{total}
-use Rattle.fx_frame_base.specs.Stage.{Given, Acts, max_taken}
+use Rattle.fx_frame_base.specs.Stage.{Given, Acts}
 use Rattle.fx_frame_base.specs.StageCore.{IsCore, core_counts, pending_frames, pending_given}
 use Rattle.fx_frame_base.specs.declared.stage_core.StageCore.{StageCore}
 use Rattle.fx_frame.specs.Kinds.{tap_kind}
+use Rattle.fx_frame.specs.Numbers.{AreCoreNumbers}
+use Rattle.fx_frame.specs.declared.numbers.TailNumbers.{TailNumbers}
 use Rattle.fx_frame.specs.History.{History, sample_before}
 use Rattle.fx_frame_base.specs.Lists.{pieces, tabulate}
 
@@ -42,45 +44,13 @@ pub record TapState (M : Type 0) : Type 0 where
   pub tail : ℕ
   pub arguments : M
 
--- the eight numbers that a stage with a tail counts, by name
-pub record TailNumbers : Type 0 where
-  pub taken : ℕ
-  pub given : ℕ
-  -- 1 after the end, 0 before it
-  pub ended : ℕ
-  pub clips : ℕ
-  -- the frames that it stores
-  pub stored : ℕ
-  -- the frames to be given after the pending one
-  pub tail : ℕ
-  -- the pending frame, and the clips in them
-  pub pending_count : ℕ
-  pub pending_clips : ℕ
-
-abbrev pub by_name : List ℕ → TailNumbers
-by_name ns = record {
-  taken = slice_index_or ns 0 0;
-  given = slice_index_or ns 1 0;
-  ended = slice_index_or ns 2 0;
-  clips = slice_index_or ns 3 0;
-  stored = slice_index_or ns 4 0;
-  tail = slice_index_or ns 5 0;
-  pending_count = slice_index_or ns 6 0;
-  pending_clips = slice_index_or ns 7 0;
-}
-
 -- the invariant of the counts of a stage of reach `reach`, with at most `maximum` clips a frame and `stored` stored frames
 pub record AreTapCounts (reach maximum stored : ℕ) (n : TailNumbers) : Type 0 where
-  pub flag : n.ended ≤ 1
-  pub bound : n.taken ≤ max_taken
+  pub core : AreCoreNumbers maximum n.core
   pub all : n.stored ≡ stored
-  pub counted : n.given + n.pending_count + n.tail ≡ n.taken + n.ended * reach
-  pub held : n.stored ≡ n.pending_count + min (n.given + n.pending_count) reach
-  pub idle : n.pending_count ≡ 0 → n.pending_clips ≡ 0
-  pub over : 1 ≤ n.ended → n.pending_count ≡ 0
-  pub not_ended : n.ended ≡ 0 → n.tail ≡ 0
-  pub clips_max : n.clips ≤ n.given * maximum
-  pub pending_max : n.pending_clips ≤ maximum
+  pub counted : n.core.given + n.core.pending_count + n.tail ≡ n.core.taken + n.core.ended * reach
+  pub held : n.stored ≡ n.core.pending_count + min (n.core.given + n.core.pending_count) reach
+  pub not_ended : n.core.ended ≡ 0 → n.tail ≡ 0
 
 module _ {M : Type 0} (taps : Taps M) where
   -- what is given for a whole sound

@@ -1,11 +1,13 @@
 -- What an `echos` stores, restored (this project's profile).
-use Rattle.std.specs.Prelude.{ℕ, ℤ, ◌<◌, ◌≤◌, ◌≡◌, ◌⊎◌, ◌++◌, List, Option, length, option_to_list, unsigned_abs}
+use Rattle.std.specs.Prelude.{ℕ, ℤ, ◌+◌, ◌*◌, ◌<◌, ◌≤◌, ◌≡◌, ◌⊎◌, ◌++◌, List, Option, length, option_to_list, unsigned_abs}
 use Rattle.std.specs.List.{All}
 use Rattle.fx_frame_base.specs.declared.stage.ThawFault.{ThawFault}
 use Rattle.fx_frame_base.specs.declared.stage.ThawFault.TheVariants.{Memory, BadSnapshot}
 use Rattle.fx_frame_base.specs.Frame.{Samples}
 use Rattle.fx_frame_base.specs.PendingFrame.{IsPending}
 use Rattle.fx_frame_line.specs.Line.{Frames}
+use Rattle.fx_frame.specs.Numbers.{AreCoreNumbers}
+use Rattle.fx_frame.specs.declared.numbers.TailNumbers.{TailNumbers}
 use Rattle.fx_tap_delays.specs.DelayExtents.{Tap}
 use Rattle.fx_tap_delays.specs.EchosState.{IsEchoLine, delay_at, frames_of_lines, line_at}
 
@@ -37,3 +39,11 @@ ForAllStored channels came taps pending_count frames P =
 -- memory was refused, or the snapshot is bad and this holds
 abbrev pub MemoryOrBad : ThawFault → Type 0 → Type 0
 MemoryOrBad fault P = (fault ≡ Memory) ⊎ ((fault ≡ BadSnapshot) × P)
+
+-- the invariant of the counts of a stage whose delays have the sum `whole`, with `stored` stored frames
+pub record AreEchosCounts (whole stored : ℕ) (n : TailNumbers) : Type 0 where
+  pub core : AreCoreNumbers 16 n.core
+  pub all : n.stored ≡ stored
+  pub pending_count_held : n.core.pending_count ≤ n.stored
+  pub not_ended : n.core.ended ≡ 0 → n.tail ≡ 0
+  pub counted : n.core.given + n.core.pending_count + n.tail ≡ n.core.taken + n.core.ended * whole

@@ -9,6 +9,7 @@ ghost use Rattle.fx_frame_base.specs.Stage.{Freezes, IsNew};
 ghost use Rattle.fx_tap_delays.specs.Echo.{EchoArguments, echo_with};
 ghost use Rattle.fx_tap_delays.specs.Echos.{decays};
 ghost use Rattle.fx_tap_delays.specs.EchosState.{EchosState, IsEchos, after_push, echos_acts, fed, frames_of_lines, let_go, lines_after, or_silence, series_lines_after, AreEchoLines, AreSeriesLines, HaveCapacity, decayed_sum, frame_from_lines, SendsThrough, clips_through, AreLineSums, RestoresEchos};
+ghost use Rattle.fx_tap_delays.specs.EchosStored.{AreEchosCounts};
 ghost use Rattle.fx_tap_sums.specs.Weights.{AreSmall};
 ghost use Rattle.fx_tap_delays.specs.EchoWeights.{Suits, ForAllSuited};
 ghost use Rattle.fx_tap_delays.specs.Sums.{AddsToEach};
@@ -19,11 +20,11 @@ use crate::series_lines::thawed_series_and_pending;
 use crate::sums::{add_scaled, round_sums, sums_into};
 use fx_fixed::{Gain, UNIT};
 use fx_frame::groups::{SAMPLES_OF_BATCH, SAMPLES_OF_GROUP};
+use fx_frame::numbers::{CoreNumbers, TailNumbers};
 use fx_frame::{Counters, Feeds, Frame, Passed, Passing, Stage, ThawFault, WideFrame, WideLine};
 use fx_frame_base::feed::{feed_by_frames, frame_at};
 use fx_frame_base::frame::MAX_CHANNELS;
 use fx_frame_base::pending::stored_pending;
-use fx_frame_base::stage::MAX_TAKEN;
 use fx_frame_base::stage_core::StageCore;
 use fx_tap_sums::inner::{Sums, add_places, add_products, add_samples, add_wide_products};
 use fx_tap_sums::weights::{SmallWeights, small_of};
@@ -515,15 +516,27 @@ impl Echos {
     }
 }
 
-/// Whether a stage that gave `given` frames can have clipped `clips` samples, and `pending_clips` more in its `pending_count`
-/// pending frames.
-fn are_clips(given: u64, clips: u64, pending_count: u64, pending_clips: u64) -> bool
-    requires { given ≤ 2 ^ 57 }
-    ensures { result ≡ true ↔ ((clips ≤ 16 * given) × (pending_clips ≤ 16) × (pending_count ≡ 0 → pending_clips ≡ 0)) }
+/// Whether a stage whose delays have the sum `whole`, and that stores `stored` frames, can have counted these numbers.
+fn are_counts(whole: u64, stored: usize, numbers: &TailNumbers) -> bool
+    requires { whole ≤ 2 ^ 28 }
+    ensures { result ≡ true ↔ AreEchosCounts whole stored numbers.now }
 {
-    clips <= MAX_CHANNELS as u64 * given
-        && pending_clips <= MAX_CHANNELS as u64
-        && (pending_count != 0 || pending_clips == 0)
+    let CoreNumbers {
+        taken,
+        given,
+        ended,
+        pending_count,
+        ..
+    } = numbers.core;
+    let tail = numbers.tail;
+    if !numbers.core.are_valid(MAX_CHANNELS as u64) || numbers.stored != stored as u64 {
+        return false;
+    }
+    if pending_count > numbers.stored || (ended == 0 && tail != 0) {
+        return false;
+    }
+    let made = taken + ended * whole;
+    given <= made && pending_count <= made - given && tail == made - given - pending_count
 }
 
 impl Echos {
@@ -550,59 +563,33 @@ impl Echos {
         ensures thawed { RestoresEchos (echo_with channels gain_in gain_out taps.now) frames.now numbers.now result }
         ensures named { (result ≡ Err ThawFault.WrongPlan) → ⊥ }
     {
-        let [
-            taken,
-            given,
-            ended,
-            clips,
-            held,
-            tail,
-            pending_count,
-            pending_clips,
-        ] = *numbers;
-        if ended > 1 || held != frames.len() as u64 || pending_count > held {
+        let numbers = TailNumbers::of(numbers);
+        if !are_counts(total_delay(taps), frames.len(), &numbers) {
             return Err(ThawFault::BadSnapshot);
         }
-        if taken > MAX_TAKEN || (ended == 0 && tail != 0) {
-            return Err(ThawFault::BadSnapshot);
-        }
-        let made = taken + ended * total_delay(taps);
-        if given > made || pending_count > made - given || tail != made - given - pending_count {
-            return Err(ThawFault::BadSnapshot);
-        }
-        if !are_clips(given, clips, pending_count, pending_clips)
-            || (pending_count != 0 && ended != 0)
-        {
-            return Err(ThawFault::BadSnapshot);
-        }
+        let core = numbers.core;
         let small = small_of(gain_in, gain_out, taps, MAX_ECHOS_WEIGHT);
-        let came = given + pending_count;
+        let came = core.given + core.pending_count;
         let (lines, pending) = thawed_series_and_pending(
             alloc,
             channels,
             came,
             taps,
             frames,
-            pending_count,
+            core.pending_count,
         )?;
         let Ok(taps) = copied(alloc, taps) else {
             return Err(ThawFault::Memory);
         };
-        let counters = Counters {
-            taken,
-            given,
-            clips,
-            ended: ended == 1,
-        };
         Ok(Echos {
-            core: StageCore::restored(pending, pending_clips, counters),
+            core: core.restored(pending),
             channels,
             gain_in,
             gain_out,
             taps,
             small,
             lines,
-            tail,
+            tail: numbers.tail,
         })
     }
 }

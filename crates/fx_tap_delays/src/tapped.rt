@@ -4,15 +4,15 @@ ghost use Rattle.std.specs.Prelude.{◌≡◌, ◌↔◌, ◌+◌, true, ◌<◌
 ghost use Rattle.fx_frame_line.specs.Line.{pushed, pushed_all};
 ghost use Rattle.fx_frame_base.specs.Lists.{pieces};
 ghost use Rattle.fx_frame_base.specs.Stage.{Freezes, Gave, IsNew, Restores};
-ghost use Rattle.fx_frame.specs.Tapped.{AreTapCounts, IsNear, IsTapState, MakesBlock, TapState, Taps, by_name, tap_acts};
+ghost use Rattle.fx_frame.specs.Tapped.{AreTapCounts, IsNear, IsTapState, MakesBlock, TapState, Taps, tap_acts};
 ghost use Rattle.fx_tap_delays.specs.Tapping.{CountsClips, IsLineFor, history_after};
 
 use fx_frame::frozen::{stored_in, thawed_line_and_pending};
 use fx_frame::groups::{SAMPLES_OF_GROUP, frames_of_group};
+use fx_frame::numbers::{CoreNumbers, TailNumbers};
 use fx_frame::{Counters, Feeds, Frame, Line, Passed, Passing, Stage, ThawFault, WideFrame};
 use fx_frame_base::StageCore;
 use fx_frame_base::feed::{copy_samples, feed_by_frames, frame_at};
-use fx_frame_base::stage::MAX_TAKEN;
 use fx_tap_sums::inner::sample_or_silence;
 use std::alloc::{AllocError, Global};
 use std::marker::Model;
@@ -292,41 +292,27 @@ fn tap_groups<T: TapsMany>(tapping: &T, line: &mut Line, samples: &mut [i32], co
 
 /// Whether a stage of reach `reach`, with `maximum` clips a frame at most, that stores `stored` frames, can have counted these
 /// numbers.
-fn are_counts(reach: usize, maximum: u64, stored: usize, numbers: &[u64; 8]) -> bool
-    requires reach { reach ≤ 2 ^ 28 }
-    requires maximum { maximum ≤ 16 }
-    ensures { result ≡ true ↔ AreTapCounts reach maximum stored (by_name numbers.now) }
+fn are_counts(reach: usize, maximum: u64, stored: usize, numbers: &TailNumbers) -> bool
+    requires { reach ≤ 2 ^ 28 }
+    ensures { result ≡ true ↔ AreTapCounts reach maximum stored numbers.now }
 {
-    let [
+    let CoreNumbers {
         taken,
         given,
         ended,
-        clips,
-        held,
-        tail,
         pending_count,
-        pending_clips,
-    ] = *numbers;
-    if ended > 1 || held != stored as u64 {
-        return false;
-    }
-    if taken > MAX_TAKEN || (ended == 0 && tail != 0) {
+        ..
+    } = numbers.core;
+    let held = numbers.stored;
+    let tail = numbers.tail;
+    if !numbers.core.are_valid(maximum) || held != stored as u64 || (ended == 0 && tail != 0) {
         return false;
     }
     let made = taken + ended * reach as u64;
     if given > made || pending_count > made - given || tail != made - given - pending_count {
         return false;
     }
-    if pending_count > held || held - pending_count != (given + pending_count).min(reach as u64) {
-        return false;
-    }
-    if (pending_count == 0 && pending_clips != 0) || (pending_count != 0 && ended != 0) {
-        return false;
-    }
-    if pending_clips > maximum || clips > given * maximum {
-        return false;
-    }
-    true
+    pending_count <= held && held - pending_count == (given + pending_count).min(reach as u64)
 }
 
 /// The stage of an effect whose output frame depends on the input frame and on those before it. It holds as many frames as its
@@ -384,40 +370,25 @@ impl<T: Tapping + Drop> Tapped<T> {
         ensures named { (result ≡ Err ThawFault.WrongPlan) → ⊥ }
     {
         let maximum = arguments.max_clips();
-        if !are_counts(reach, maximum, frames.len(), numbers) {
+        let numbers = TailNumbers::of(numbers);
+        if !are_counts(reach, maximum, frames.len(), &numbers) {
             return Err(ThawFault::BadSnapshot);
         }
-        let [
-            taken,
-            given,
-            ended,
-            clips,
-            _,
-            tail,
-            pending_count,
-            pending_clips,
-        ] = *numbers;
         let channels = arguments.channels();
         let (line, pending) = match thawed_line_and_pending(
             alloc,
             channels,
             reach,
             frames,
-            pending_count,
+            numbers.core.pending_count,
         ) {
             Ok(stored) => stored,
             Err(fault) => return Err(fault),
         };
-        let counters = Counters {
-            taken,
-            given,
-            clips,
-            ended: ended == 1,
-        };
         Ok(Tapped {
-            core: StageCore::restored(pending, pending_clips, counters),
+            core: numbers.core.restored(pending),
             line,
-            tail: tail as usize,
+            tail: numbers.tail as usize,
             arguments,
         })
     }

@@ -8,9 +8,10 @@ use Rattle.fx_frame_line.specs.Line.{Frames, pushed, channel_of}
 use Rattle.fx_frame.specs.Frozen.{IsStored}
 use Rattle.fx_frame_base.specs.StageCore.{pending_frames}
 use Rattle.fx_frame_base.specs.Stage.{Gave, Took, Freezes, numbers_of}
-use Rattle.fx_frame.specs.Tapped.{by_name}
+use Rattle.fx_frame.specs.Numbers.{by_name, core_of}
 use Rattle.fx_frame.specs.History.{sample_before}
-use Rattle.fx_frame.proofs.Counts.{flag-false, flag-of, flag-true}
+use Rattle.fx_frame.proofs.CoreLaws.{AreCoreNumbers-of, core_of-numbers}
+use Rattle.fx_frame.proofs.Counts.{flag-false}
 use Rattle.fx_tap_fir.specs.Fir.{FirArguments, centre, filtered_frame, filtered_at, filtered}
 use Rattle.fx_tap_fir.specs.FirState.{AreFirCounts, FirState, IsFir, fir_after, fir_tail, fir_acts, arguments_of}
 use Rattle.fx_frame_base.specs.Lists.{tabulate}
@@ -21,7 +22,6 @@ use Rattle.fx_fixed.specs.declared.gains.TheConstants.{UNIT}
 use Rattle.fx_frame.proofs.DryLaws.{dry-pending, dry-tail}
 use Rattle.fx_frame.proofs.DelayLaws.{sample_before-append, sample_before-drop}
 use Rattle.fx_frame_base.proofs.Tabulate.{tabulate-same}
-use Rattle.fx_frame_base.proofs.Flags.{flag-le}
 
 -- ---- a window
 
@@ -183,11 +183,11 @@ stored-is s channels h frames numbers is made froze =
 -- and it is the stage that is made of them
 pub thawed-is : (s : FirState) (channels : ℕ) (h backwards : List ℤ) (line : Frames ℤ) (pending : Option Samples) (numbers : List ℕ) → arguments_of s ≡ record { channels = channels; coefficients = h } → numbers ≡ numbers_of fir_acts s
     → line ≡ s.line → pending ≡ s.core.pending → backwards ≡ reverse h
-    → record { channels = channels; backwards = backwards; line = line; core = record { pending = pending; pending_clips = slice_index_or numbers 7 0; taken = slice_index_or numbers 0 0; given = slice_index_or numbers 1 0; clips = slice_index_or numbers 3 0; ended = nat_eq (slice_index_or numbers 2 0) 1 }; tail = slice_index_or numbers 5 0 } ≡ s
+    → record { channels = channels; backwards = backwards; line = line; core = core_of (by_name numbers).core pending; tail = (by_name numbers).tail } ≡ s
 thawed-is s channels h backwards line pending numbers made counted line_is pending_is back_is =
     let wide : channels ≡ s.channels = sym (ap (λ (r : FirArguments). r.channels) made) in
     let back : backwards ≡ s.backwards = back_is ∙ sym (backwards_of s channels h made) in
-    rw (wide, back, line_is, pending_is, counted, flag-of s.core.ended) refl
+    rw (wide, back, line_is, pending_is, counted, core_of-numbers s.core) refl
 
 -- the frames made, by whether the end came
 by_end : (b : Bool) (made taken late : ℕ) → made ≡ cond b taken (taken - late) → (◌≡◌ {A = ℕ} (cond b 1 0) 0 → made ≡ taken - late) × (1 ≤ cond b 1 0 → made ≡ taken)
@@ -208,13 +208,11 @@ counts-are s channels h frames numbers is made froze =
     let held = is.held in
     let full = is.capacity in
     let tail = is.tail_held in
-    let clips_max = is.core.clips_max in
     let bound = is.tail_bound in
     let sum = by_end s.core.ended (s.core.given + length (pending_frames s.core) + s.tail) s.core.taken (centre (length s.backwards)) is.counted in
     rw froze.counted
     record {
-      flag = flag-le s.core.ended;
-      bound = is.core.bound;
+      core = AreCoreNumbers-of _ _ s.core is.core;
       all = ap length (sym froze.stored);
       held = omega (arith, all, held, full, same);
       running = λ z. let e = sum.0 z in omega (arith, e, same);
@@ -222,8 +220,4 @@ counts-are s channels h frames numbers is made froze =
       tail_held = omega (arith, tail, held, full, same);
       tail_bound = omega (arith, bound, same);
       not_ended = λ z. is.not_ended (flag-false s.core.ended z);
-      clips_max = omega (arith, clips_max);
-      pending_max = is.core.pending_max;
-      idle = is.core.idle;
-      over = λ some. is.core.over (flag-true s.core.ended some);
     }

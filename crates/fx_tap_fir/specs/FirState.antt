@@ -1,5 +1,5 @@
 -- The stage of `fir`: what it stores, its invariant, and what it is still to give (this project's profile).
-use Rattle.std.specs.Prelude.{ℕ, ℤ, pos, ◌+◌, ◌-◌, ◌*◌, ◌^◌, ◌≤◌, ◌≡◌, false, ◌&&◌, List, ◌++◌, length, min, reverse, Result, is_none, nat_eq, nat_le, slice_index_or, cond, unsigned_abs, All}
+use Rattle.std.specs.Prelude.{ℕ, ℤ, pos, ◌+◌, ◌-◌, ◌^◌, ◌≤◌, ◌≡◌, false, ◌&&◌, List, ◌++◌, length, min, reverse, Result, is_none, nat_eq, nat_le, slice_index_or, cond, unsigned_abs, All}
 use Rattle.std.specs.Int.{w32}
 use Rattle.fx_fixed.specs.Rounding.{rounding}
 use Rattle.fx_fixed.specs.declared.gains.TheConstants.{UNIT}
@@ -7,8 +7,10 @@ use Rattle.fx_frame_base.specs.Frame.{Samples}
 use Rattle.fx_frame_base.specs.declared.stage_core.StageCore.{StageCore}
 use Rattle.fx_frame_base.specs.StageCore.{IsCore, core_counts, pending_frames, pending_given}
 use Rattle.fx_frame_line.specs.Line.{Frames, IsLine}
-use Rattle.fx_frame_base.specs.Stage.{Given, Acts, Restores, max_taken}
-use Rattle.fx_frame.specs.Tapped.{TailNumbers, Taps}
+use Rattle.fx_frame_base.specs.Stage.{Given, Acts, Restores}
+use Rattle.fx_frame.specs.Numbers.{AreCoreNumbers}
+use Rattle.fx_frame.specs.declared.numbers.TailNumbers.{TailNumbers}
+use Rattle.fx_frame.specs.Tapped.{Taps}
 use Rattle.fx_frame_base.specs.Lists.{tabulate}
 use Rattle.fx_frame_base.specs.declared.stage.ThawFault.{ThawFault}
 use Rattle.fx_tap_sums.specs.Products.{sum_of_products}
@@ -60,19 +62,14 @@ pub record IsFir (s : FirState) : Type 0 where
 
 -- the invariant of the counts of a stage with `count` coefficients and `stored` stored frames
 pub record AreFirCounts (count stored : ℕ) (n : TailNumbers) : Type 0 where
-  pub flag : n.ended ≤ 1
-  pub bound : n.taken ≤ max_taken
+  pub core : AreCoreNumbers 16 n.core
   pub all : n.stored ≡ stored
-  pub held : n.stored ≡ n.pending_count + min n.taken (count - 1)
-  pub running : n.ended ≡ 0 → n.given + n.pending_count + n.tail ≡ n.taken - centre count
-  pub through : 1 ≤ n.ended → n.given + n.pending_count + n.tail ≡ n.taken
-  pub tail_held : n.tail ≤ min n.taken (count - 1)
+  pub held : n.stored ≡ n.core.pending_count + min n.core.taken (count - 1)
+  pub running : n.core.ended ≡ 0 → n.core.given + n.core.pending_count + n.tail ≡ n.core.taken - centre count
+  pub through : 1 ≤ n.core.ended → n.core.given + n.core.pending_count + n.tail ≡ n.core.taken
+  pub tail_held : n.tail ≤ min n.core.taken (count - 1)
   pub tail_bound : n.tail ≤ centre count
-  pub not_ended : n.ended ≡ 0 → n.tail ≡ 0
-  pub clips_max : n.clips ≤ 16 * n.given
-  pub pending_max : n.pending_clips ≤ 16
-  pub idle : n.pending_count ≡ 0 → n.pending_clips ≡ 0
-  pub over : 1 ≤ n.ended → n.pending_count ≡ 0
+  pub not_ended : n.core.ended ≡ 0 → n.tail ≡ 0
 
 -- what is given for frames that follow those of the line
 abbrev pub fir_after : FirArguments → List Samples → List Samples → List Given

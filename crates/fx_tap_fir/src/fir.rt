@@ -6,7 +6,7 @@ ghost use Rattle.fx_frame_base.specs.Lists.{pieces};
 ghost use Rattle.fx_frame_base.specs.Stage.{Freezes, IsNew};
 ghost use Rattle.fx_tap_fir.specs.Fir.{FirArguments, centre, filtered_frame, filtered_next, filtered_sample, fir_with};
 ghost use Rattle.fx_tap_fir.specs.FirState.{AreFirCounts, FirState, IsFir, RestoresFir, fir_acts, fir_taps};
-ghost use Rattle.fx_frame.specs.Tapped.{MakesBlock, by_name, clips_in_block};
+ghost use Rattle.fx_frame.specs.Tapped.{MakesBlock, clips_in_block};
 
 pub mod words;
 
@@ -16,11 +16,11 @@ use crate::reduced::SUMS_OF_PIECE;
 use fx_fixed::Gain;
 use fx_frame::frozen::{stored_in, thawed_line_and_pending};
 use fx_frame::groups::{SAMPLES_OF_BATCH, SAMPLES_OF_GROUP};
+use fx_frame::numbers::{CoreNumbers, TailNumbers};
 use fx_frame::{Counters, Feeds, Frame, Line, Passed, Passing, Stage, ThawFault, WideFrame};
 use fx_frame_base::StageCore;
 use fx_frame_base::feed::{feed_by_frames, frame_at};
 use fx_frame_base::frame::MAX_CHANNELS;
-use fx_frame_base::stage::MAX_TAKEN;
 use std::alloc::{AllocError, Global};
 use std::marker::Model;
 
@@ -538,41 +538,31 @@ impl Fir {
 }
 
 /// Whether a stage with `count` coefficients that stores `stored` frames can have counted these numbers.
-fn are_counts(count: usize, stored: usize, numbers: &[u64; 8]) -> bool
+fn are_counts(count: usize, stored: usize, numbers: &TailNumbers) -> bool
     requires { (1 ≤ count) × (count ≤ 1024) }
-    ensures { result ≡ true ↔ AreFirCounts count stored (by_name numbers.now) }
+    ensures { result ≡ true ↔ AreFirCounts count stored numbers.now }
 {
-    let [
+    let CoreNumbers {
         taken,
         given,
         ended,
-        clips,
-        held,
-        tail,
         pending_count,
-        pending_clips,
-    ] = *numbers;
+        ..
+    } = numbers.core;
+    let held = numbers.stored;
+    let tail = numbers.tail;
     let centre = centre_of(count) as u64;
-    if ended > 1 || taken > MAX_TAKEN || held != stored as u64 {
+    if !numbers.core.are_valid(MAX_CHANNELS as u64) || held != stored as u64 {
         return false;
     }
-    if pending_count > held
-        || held - pending_count != taken.min(count as u64 - 1)
-        || pending_clips > MAX_CHANNELS as u64
-    {
+    if pending_count > held || held - pending_count != taken.min(count as u64 - 1) {
         return false;
     }
     let made = taken - due_late(ended, taken, centre);
     if given > made || pending_count > made - given || tail != made - given - pending_count {
         return false;
     }
-    if (pending_count == 0 && pending_clips != 0) || (pending_count != 0 && ended != 0) {
-        return false;
-    }
-    clips <= MAX_CHANNELS as u64 * given
-        && tail <= centre
-        && tail <= held - pending_count
-        && (ended != 0 || tail == 0)
+    tail <= centre && tail <= held - pending_count && (ended != 0 || tail == 0)
 }
 
 impl Fir {
@@ -592,26 +582,16 @@ impl Fir {
         ensures named { (result ≡ Err ThawFault.WrongPlan) → ⊥ }
         ensures thawed { RestoresFir (fir_with channels coefficients.now) frames.now numbers.now result }
     {
-        if !are_counts(coefficients.len(), frames.len(), numbers) {
+        let numbers = TailNumbers::of(numbers);
+        if !are_counts(coefficients.len(), frames.len(), &numbers) {
             return Err(ThawFault::BadSnapshot);
         }
-        let [
-            taken,
-            given,
-            ended,
-            clips,
-            _,
-            tail,
-            pending_count,
-            pending_clips,
-        ] = *numbers;
-        let capacity = coefficients.len() - 1;
         let (line, pending) = match thawed_line_and_pending(
             alloc,
             channels,
-            capacity,
+            coefficients.len() - 1,
             frames,
-            pending_count,
+            numbers.core.pending_count,
         ) {
             Ok(stored) => stored,
             Err(fault) => return Err(fault),
@@ -620,20 +600,11 @@ impl Fir {
             return Err(ThawFault::Memory);
         };
         Ok(Fir {
-            core: StageCore::restored(
-                pending,
-                pending_clips,
-                Counters {
-                    taken,
-                    given,
-                    clips,
-                    ended: ended == 1,
-                },
-            ),
+            core: numbers.core.restored(pending),
             channels,
             kernel,
             line,
-            tail: tail as usize,
+            tail: numbers.tail as usize,
         })
     }
 }

@@ -6,12 +6,12 @@ ghost use Rattle.fx_frame_base.specs.Stage.{Freezes, Given, IsNew};
 ghost use Rattle.fx_frame.specs.Made.{clips_in, made_of};
 ghost use Rattle.fx_tap_pointwise.specs.Mapped.{MapsBlock, RestoresMapped};
 
+use fx_frame::numbers::CoreNumbers;
 use fx_frame::{Counters, Feeds, Frame, Passed, Passing, Stage, ThawFault, WideFrame};
 use fx_frame_base::StageCore;
 use fx_frame_base::feed::{feed_by_frames, frame_at, put_frame};
 use fx_frame_base::frame::MAX_CHANNELS;
 use fx_frame_base::pending::{stored_pending, thawed_pending};
-use fx_frame_base::stage::MAX_TAKEN;
 use std::marker::Model;
 
 /// What an effect makes of a frame, independent of its history.
@@ -199,32 +199,28 @@ impl<M: Mapping + Drop> Mapped<M> {
             given,
             ended,
             clips,
-            held,
+            pending_count,
             pending_clips,
             second_counter,
             third_counter,
         ] = *numbers;
-        if ended > 1 || second_counter != 0 || third_counter != 0 || held != frames.len() as u64 {
+        let core = CoreNumbers {
+            taken,
+            given,
+            ended,
+            clips,
+            pending_count,
+            pending_clips,
+        };
+        if !core.are_valid(MAX_CHANNELS as u64) || second_counter != 0 || third_counter != 0 {
             return Err(ThawFault::BadSnapshot);
         }
-        if taken > MAX_TAKEN || given > taken || held != taken - given {
-            return Err(ThawFault::BadSnapshot);
-        }
-        if pending_clips > MAX_CHANNELS as u64 || clips > MAX_CHANNELS as u64 * given {
-            return Err(ThawFault::BadSnapshot);
-        }
-        if (held == 0 && pending_clips != 0) || (held != 0 && ended != 0) {
+        if pending_count != frames.len() as u64 || given > taken || pending_count != taken - given {
             return Err(ThawFault::BadSnapshot);
         }
         let pending = thawed_pending(frames, mapping.out_channels())?;
-        let counters = Counters {
-            taken,
-            given,
-            clips,
-            ended: ended == 1,
-        };
         Ok(Mapped {
-            core: StageCore::restored(pending, pending_clips, counters),
+            core: core.restored(pending),
             mapping,
         })
     }
