@@ -32,8 +32,8 @@ lines-for : (channels : ℕ) (acts : List Act) → line_sum (kinds_for channels 
 lines-for channels [] = refl
 lines-for channels (a ∷ acts) = rw (line-is channels a, lines-for (channels_after channels a) acts) refl
 
-pub lines-are : (c : ChainParts) → IsChain c → line_sum (kinds effect_acts c.flow.stages) ≡ total line_of_act c.plan.acts
-lines-are c h = ap line_sum (kinds-made c.flow.stages c.plan.head.channels c.plan.acts h.made) ∙ lines-for c.plan.head.channels c.plan.acts
+pub line_sum-effects : (c : ChainParts) → IsChain c → line_sum (kinds effect_acts c.flow.stages) ≡ total line_of_act c.plan.acts
+line_sum-effects c h = ap line_sum (kinds-made c.flow.stages c.plan.head.channels c.plan.acts h.made) ∙ lines-for c.plan.head.channels c.plan.acts
 
 recipes-count : (channels : ℕ) (acts : List Act) → length (recipes_for channels acts) ≡ length acts
 recipes-count channels [] = refl

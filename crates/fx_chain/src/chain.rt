@@ -6,7 +6,7 @@ ghost use Rattle.fx_chain_flow.specs.Parts.{AllNew, Parts, any_spent, moves_of, 
 ghost use Rattle.fx_chain_flow.specs.Sound.{max_frames};
 ghost use Rattle.fx_chain_flow.specs.Feed.{held_of};
 ghost use Rattle.fx_chain_flow.specs.Steps.{GaveDue, StepsOn, clips_in_all, given_in_all, has_enough, IsDone, IsHungry, MovedOn, StateIs, Steps, StepsInSequence, rest_of};
-ghost use Rattle.fx_frame_base.specs.Frame.{Samples};
+ghost use Rattle.fx_frame_base.specs.Frame.{IsChannelCount, Samples};
 ghost use Rattle.fx_frame_base.specs.Holds.{capacity_sum, total};
 ghost use Rattle.fx_plan_effects.specs.Bounds.{hold_all, work_of};
 ghost use Rattle.fx_plan_effects.specs.Meanings.{line_of_act};
@@ -109,7 +109,7 @@ impl Chain {
     /// one more than was due before it. Where the output has no space for one frame, nothing changes; and once it has none,
     /// the call ends: the last step is the one that gave the last frame.
     pub fn feed(&mut self, input: &[i32], output: &mut [i32]) -> Passed
-        requires channels { (1 ≤ inputs_in self.old) × (inputs_in self.old ≤ 16) }
+        requires channels { IsChannelCount (inputs_in self.old) }
         requires bound { (n : ℕ) → n * inputs_in self.old ≤ length input.now → taken_of self.old.flow + n ≤ max_frames }
         ensures fed { ChainFed self.old self.new input.now output.old output.new result }
     {
@@ -119,7 +119,7 @@ impl Chain {
     /// Samples per frame that it gives.
     pub fn outputs(&self) -> usize
         ensures value { result ≡ outputs_in self.now }
-        ensures range { (1 ≤ result) × (result ≤ 16) }
+        ensures range { IsChannelCount result }
     {
         let _head = self.plan.head();
         let _effects = self.plan.effects();

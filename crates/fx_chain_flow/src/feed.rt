@@ -4,6 +4,7 @@ ghost use Rattle.fx_chain_flow.specs.Feed.{FlowFedSamples, FlowGaveSamples, Flow
 ghost use Rattle.fx_chain_flow.specs.Order.{FedInOrder};
 ghost use Rattle.fx_chain_flow.specs.Parts.{taken_of};
 ghost use Rattle.fx_chain_flow.specs.Sound.{max_frames};
+ghost use Rattle.fx_frame_base.specs.Frame.{IsChannelCount};
 
 use crate::flow::{Flow, State, Step};
 use crate::stage_calls::StageCalls;
@@ -16,7 +17,7 @@ pub(crate) fn feed_by_steps<S: StageCalls>(
     input: &[i32],
     output: &mut [i32],
 ) -> Passed
-    requires channels { (1 ≤ flow.old.channels) × (flow.old.channels ≤ 16) }
+    requires channels { IsChannelCount flow.old.channels }
     requires bound { (n : ℕ) → n * flow.old.channels ≤ length input.now → taken_of flow.old + n ≤ max_frames }
     ensures fed { FlowFedSamples S.acts flow.old input.now output.new result flow.new }
     ensures gave { FlowGaveSamples S.acts flow.old input.now output.new result flow.new }

@@ -1,7 +1,7 @@
 ghost use Rattle.std.specs.Prelude.{◌≡◌, ◌<◌, ◌≤◌, ◌+◌, ◌-◌, ◌++◌, ◌∷◌, ℕ, true, false, List, [], length, map, slice_index, option_to_list, Option, Some, None, IfOk, OnOk, MatchResult, Err, ◌*◌, drop};
 ghost use Rattle.std.specs.List.{All};
 ghost use Rattle.fx_chain_flow.specs.Frozen.{FreezesFlow, AllMade, AllSound};
-ghost use Rattle.fx_frame_base.specs.Frame.{Samples};
+ghost use Rattle.fx_frame_base.specs.Frame.{IsChannelCount, Samples};
 ghost use Rattle.fx_frame_base.specs.Holds.{recipes, kinds, hold_sum, line_sum, held_sum, capacity_sum, total};
 ghost use Rattle.fx_chain_flow.specs.Feed.{FlowFedSamples, FlowGaveSamples, FlowPlaced, FlowStopped, FlowTookWithinSpace, GaveLastWhenFull, channels_out, held_of};
 ghost use Rattle.fx_frame_base.specs.Pipeline.{outputs_of};
@@ -329,7 +329,7 @@ impl<S: StageCalls> Flow<S> {
     /// It hands frames over by the calls of `StageCalls`, and by `PassesEarly::pass_early`. Between two of these calls, the frames
     /// that it holds and those in transit to a stage are no more than its hold.
     pub fn feed(&mut self, input: &[i32], output: &mut [i32]) -> Passed
-        requires channels { (1 ≤ self.old.channels) × (self.old.channels ≤ 16) }
+        requires channels { IsChannelCount self.old.channels }
         requires bound { (n : ℕ) → n * self.old.channels ≤ length input.now → taken_of self.old + n ≤ max_frames }
         ensures fed { FlowFedSamples S.acts self.old input.now output.new result self.new }
         ensures gave { FlowGaveSamples S.acts self.old input.now output.new result self.new }
@@ -385,7 +385,7 @@ impl<S: StageCalls> Flow<S> {
     pub(crate) fn run(&mut self, widths: Widths, input: &[i32], output: &mut [i32]) -> Passed
         requires hungry { IsHungry S.acts self.old }
         requires not_spent { any_spent S.acts self.old.stages ≡ false }
-        requires channels { (1 ≤ self.old.channels) × (self.old.channels ≤ 16) }
+        requires channels { IsChannelCount self.old.channels }
         requires bound { (n : ℕ) → n * self.old.channels ≤ length input.now → taken_of self.old + n ≤ max_frames }
         requires inputs { widths.inputs ≡ self.old.channels }
         requires outputs { widths.outputs ≡ channels_out S.acts self.old }

@@ -5,6 +5,7 @@ ghost use Rattle.fx_frame_base.specs.Lists.{pieces};
 ghost use Rattle.fx_frame_base.specs.Pipeline.{AreReady, PipelineThrough};
 ghost use Rattle.fx_chain_flow.specs.Pipeline.{AllLined};
 ghost use Rattle.fx_chain_flow.specs.Runs.{AllAhead, AllKeep, AllOneToOne, MayRunOneToOne, RanAtAny, RanSamplesInOrder};
+ghost use Rattle.fx_frame_base.specs.Frame.{IsChannelCount};
 
 use crate::stage_calls::StageCalls;
 use fx_frame_base::Feeds;
@@ -33,7 +34,7 @@ fn pass_batch<S: StageCalls>(
     input: &[i32],
     output: &mut [i32],
 )
-    requires frame { (1 ≤ channels) × (channels ≤ 16) }
+    requires frame { IsChannelCount channels }
     requires some { 1 ≤ count }
     requires ready { (taken maximum : ℕ) × (taken + count ≤ maximum) × AreReady S.acts channels taken maximum stages.old }
     requires keep { AllKeep channels (kinds S.acts stages.old) }

@@ -12,6 +12,7 @@ ghost use Rattle.fx_chain_flow.specs.Order.{WentEarly};
 ghost use Rattle.fx_chain_flow.specs.StageCall.{At};
 ghost use Rattle.fx_chain_flow.specs.Runs.{AllAhead, AllKeep, FrameInOrder, MayRunPipeline, RanPipeline, frame_out};
 ghost use Rattle.fx_frame_base.specs.Holds.{kinds};
+ghost use Rattle.fx_frame_base.specs.Frame.{IsChannelCount};
 
 use crate::one_to_one::{min_one_to_one, run_one_to_one};
 use crate::stage_calls::StageCalls;
@@ -88,13 +89,13 @@ fn pass_along<S: StageCalls>(
     channels: usize,
     places: &mut [i32; 16],
 ) -> Passage
-    requires frame { (1 ≤ channels) × (channels ≤ 16) }
+    requires frame { IsChannelCount channels }
     requires ready { (taken maximum : ℕ) × (taken < maximum) × AreReady S.acts channels taken maximum stages.old }
     requires keep { keeps ≡ true → AllKeep channels (kinds S.acts stages.old) }
     requires determined { AllDetermined S.acts stages.old }
     requires held { AllHeld S.acts stages.old }
     ensures went { WentThrough S.acts (take channels places.old) (frame_out S.acts channels stages.old result places.new) stages.old stages.new }
-    ensures frame { result.is_given ≡ true → (1 ≤ outputs_of channels (kinds S.acts stages.old)) × (outputs_of channels (kinds S.acts stages.old) ≤ 16) }
+    ensures frame { result.is_given ≡ true → IsChannelCount (outputs_of channels (kinds S.acts stages.old)) }
     ensures determined { result.is_wet ≡ false → AllDetermined S.acts stages.new }
     ensures order { FrameInOrder S.acts S.handed S.passed_while channels result places.old places.new stages.old stages.new }
 {
@@ -224,7 +225,7 @@ fn run_early<S: StageCalls>(
     input: &[i32],
     output: &mut [i32],
 )
-    requires frame { (1 ≤ channels) × (channels ≤ 16) }
+    requires frame { IsChannelCount channels }
     requires some { 1 ≤ count }
     requires early { At (λ s. count ≤ S.early s) 0 stages.old }
     requires ready { (taken maximum : ℕ) × (taken + count ≤ maximum) × AreReady S.acts channels taken maximum stages.old }

@@ -9,6 +9,7 @@ ghost use Rattle.fx_frame_base.specs.Holds.{kinds};
 ghost use Rattle.fx_frame_base.specs.Lists.{pieces};
 ghost use Rattle.fx_frame_base.specs.Pipeline.{AreReadyFor, PipelineThrough, outputs_of};
 ghost use Rattle.fx_frame_base.specs.Stage.{IsDry, kind, spent};
+ghost use Rattle.fx_frame_base.specs.Frame.{IsChannelCount};
 
 use fx_frame_base::feed::take_many;
 use fx_frame_base::frame::Frame;
@@ -51,9 +52,9 @@ pub trait StageCalls: PassesEarly + PassesWhile {
         channels: &mut usize,
     ) -> Passing
         requires may { At (MayBePassed Self.acts keeps channels.old) place stages.old }
-        requires frame { (1 ≤ channels.old) × (channels.old ≤ 16) }
+        requires frame { IsChannelCount channels.old }
         ensures passed { ChangedAt (WasPassed Self.acts result (take channels.old places.old) (take channels.new places.new)) place stages.old stages.new }
-        ensures frame { (1 ≤ channels.new) × (channels.new ≤ 16) }
+        ensures frame { IsChannelCount channels.new }
         ensures kept { keeps ≡ true → channels.new ≡ channels.old }
         ensures handed { handed stages.old (at_stage place (take channels.old places.old ∷ []) (given_on result (take channels.new places.new))) stages.new };
 
@@ -66,7 +67,7 @@ pub trait StageCalls: PassesEarly + PassesWhile {
         samples: &mut [i32],
     )
         requires may { At (MayBePassedMany Self.acts channels count) place stages.old }
-        requires frame { (1 ≤ channels) × (channels ≤ 16) }
+        requires frame { IsChannelCount channels }
         requires samples { length samples.old ≡ count * channels }
         ensures passed { ChangedAt (WasPassedSamples Self.acts channels count samples.old samples.new) place stages.old stages.new }
         ensures handed { handed stages.old (at_stage place (pieces channels count samples.old) (pieces channels count samples.new)) stages.new };
@@ -74,7 +75,7 @@ pub trait StageCalls: PassesEarly + PassesWhile {
     /// Gives the first stage `count` frames of `channels` channels, for which none is due.
     fn take_first(stages: &mut [Self], channels: usize, count: usize, input: &[i32])
         requires may { At (MayTakeMany Self.acts channels count) 0 stages.old }
-        requires frame { (1 ≤ channels) × (channels ≤ 16) }
+        requires frame { IsChannelCount channels }
         requires input { length input.now ≡ count * channels }
         ensures took { ChangedAt (TookMany Self.acts (pieces channels count input.now)) 0 stages.old stages.new }
         ensures handed { handed stages.old (through_all (pieces channels count input.now) []) stages.new };
@@ -88,7 +89,7 @@ pub trait StageCalls: PassesEarly + PassesWhile {
         input: &[i32],
         output: &mut [i32],
     ) -> usize
-        requires frame { (1 ≤ channels) × (channels ≤ 16) }
+        requires frame { IsChannelCount channels }
         requires ready { AreReadyFor Self.acts channels count stages.old }
         requires outputs { outputs ≡ outputs_of channels (kinds Self.acts stages.old) }
         requires blocks { (count * channels ≤ length input.now) × (count * outputs ≤ length output.old) }
@@ -206,11 +207,11 @@ fn pass_to<S: Feeds>(
     requires not_ended { (S.acts.counts stage.old).ended ≡ false }
     requires not_spent { spent S.acts stage.old ≡ false }
     requires channels { channels.old ≡ (kind S.acts stage.old).inputs }
-    requires frame { (1 ≤ channels.old) × (channels.old ≤ 16) }
+    requires frame { IsChannelCount channels.old }
     requires keep { keeps ≡ true → (kind S.acts stage.old).outputs ≡ (kind S.acts stage.old).inputs }
     requires below_limit { (S.acts.counts stage.old).taken < (kind S.acts stage.old).limit }
     ensures passed { PassedOn S.acts result stage.old stage.new (take channels.old places.old) (take channels.new places.new) }
-    ensures frame { (1 ≤ channels.new) × (channels.new ≤ 16) }
+    ensures frame { IsChannelCount channels.new }
     ensures kept { keeps ≡ true → channels.new ≡ channels.old }
     ensures determined { S.acts.dry stage.new ≡ true → IsDry S.acts stage.new }
 {

@@ -14,10 +14,10 @@ use Rattle.fx_chain_flow.proofs.Laws.{none_true}
 use Rattle.fx_frame_base.proofs.FedLaws.{total-append}
 
 -- one list behind the other, each at its place
-abbrev both : List (List Given) → List (List Given) → List (List Given)
-both [] ds = []
-both (g ∷ gs) [] = []
-both (g ∷ gs) (d ∷ ds) = (g ++ d) ∷ both gs ds
+abbrev append_each : List (List Given) → List (List Given) → List (List Given)
+append_each [] ds = []
+append_each (g ∷ gs) [] = []
+append_each (g ∷ gs) (d ∷ ds) = (g ++ d) ∷ append_each gs ds
 
 clips-append : (g d : List Given) → clips_given (g ++ d) ≡ clips_given g + clips_given d
 clips-append g d = total-append (λ (x : Given). x.clips) g d
@@ -41,7 +41,7 @@ module _ {S R : Type 0} (acts : Acts S R) where
   After-same [] y = tt
   After-same (s ∷ ss) y = (refl, omega arith, omega arith, After-same ss _)
 
-  After-then : (gs ds : List (List Given)) (ss ts us : List S) (y z w : List Samples) → After gs ss ts y z → After ds ts us z w → After (both gs ds) ss us y w
+  After-then : (gs ds : List (List Given)) (ss ts us : List S) (y z w : List Samples) → After gs ss ts y z → After ds ts us z w → After (append_each gs ds) ss us y w
   After-then [] [] [] [] [] y z w a b = tt
   After-then (g ∷ gs) (d ∷ ds) (s ∷ ss) (t ∷ ts) (u ∷ us) y z w a b = (
     a.0 ∙ ap (λ l. g ++ l) b.0 ∙ sym (append_assoc g d (acts.rest u w)),
@@ -102,7 +102,7 @@ module _ {S R : Type 0} (acts : Acts S R) where
   History-step : (first f f' : Parts S) (xs : List Samples) → History first xs f → f'.ended ≡ f.ended → (ds : List (List Given))
       → ((z : List Samples) → (f.ended ≡ true → z ≡ []) → After ds f.stages f'.stages (option_to_list f.inlet ++ z) (option_to_list f'.inlet ++ z)) → History first xs f'
   History-step first f f' xs p unchanged ds more = record {
-    gs = both p.gs ds;
+    gs = append_each p.gs ds;
     all = λ z over. let before : f.ended ≡ true → z ≡ [] = λ e. over (unchanged ∙ e) in After-then p.gs ds first.stages f.stages f'.stages _ _ _ (p.all z before) (more z before);
   }
 

@@ -4,6 +4,7 @@ ghost use Rattle.fx_frame_base.specs.Coding.{width_of};
 ghost use Rattle.fx_sound.specs.FrameCoding.{bytes_of, clips_of, frame_size};
 ghost use Rattle.fx_frame_base.specs.Io.{CountsFailure};
 ghost use Rattle.fx_sound.specs.Output.{SendsMore, SendsPart, bytes_put};
+ghost use Rattle.fx_frame_base.specs.Frame.{IsChannelCount};
 
 use fx_frame::{ByteOut, Coding, Failed, Frame};
 use fx_sound::inner::{BUFFER_SIZE, Output, encode};
@@ -50,7 +51,7 @@ impl FrameWriter {
 impl FrameWriter {
     /// For how many frames of `channels` channels there is free space before bytes have to go to the writer.
     pub fn free(&self, channels: usize) -> usize
-        requires { (1 ≤ channels) × (channels ≤ 16) }
+        requires { IsChannelCount channels }
         ensures free { result * channels * width_of self.now.coding ≤ self.now.output.free }
         ensures maximum { result * channels ≤ BUFFER_SIZE }
     {

@@ -9,6 +9,7 @@ ghost use Rattle.fx_plan_effects.specs.Effects.{Usable, act};
 ghost use Rattle.fx_plan_effects.specs.Meanings.{InPlace, line_of_act, recipe_at};
 ghost use Rattle.fx_chain_stages.specs.Stages.{effect_acts};
 ghost use Rattle.fx_chain_stages.specs.Made.{all_suit, recipes_for, suits};
+ghost use Rattle.fx_frame_base.specs.Frame.{IsChannelCount};
 
 use crate::registry::{EffectStage, made};
 use crate::thaw::EffectArguments;
@@ -19,7 +20,7 @@ use std::alloc::{AllocError, Global};
 
 /// The stage of an effect that takes frames of `channels` channels; AllocError where memory for it is refused.
 fn stage_of(alloc: Global, channels: usize, effect: &Effect) -> Result<EffectStage, AllocError>
-    requires channels { (1 ≤ channels) × (channels ≤ 16) }
+    requires channels { IsChannelCount channels }
     requires usable { Usable (act effect.now) }
     requires suits { suits channels (act effect.now) ≡ true }
     requires line { line_of_act (act effect.now) ≤ 2 ^ 28 }
@@ -35,7 +36,7 @@ pub fn stages_of(
     channels: usize,
     effects: &[Effect],
 ) -> Result<Vec<EffectStage>, AllocError>
-    requires channels { (1 ≤ channels) × (channels ≤ 16) }
+    requires channels { IsChannelCount channels }
     requires usable { All Usable (map act effects.now) }
     requires suit { all_suit channels (map act effects.now) ≡ true }
     requires hold { hold_all (map act effects.now) ≤ 2 ^ 28 }

@@ -37,9 +37,9 @@ pad_new channels ps z =
 pub pad_taken : (channels : ℕ) (ps : List (ℕ × At)) (n : ℕ) (items : List Samples) (frame : Samples) (z : List Samples) → pad_rest channels ps n items (frame ∷ z) ≡ pad_rest channels ps n (items ++ frame ∷ []) z
 pad_taken channels ps n items frame z = ap (λ y. padded_from channels (n + length y) ps n y) (sym (append_assoc items (frame ∷ []) z))
 
-pub pad_let_go : (channels : ℕ) (ps : List (ℕ × At)) (n : ℕ) (o : Samples) (items z : List Samples) → RisesFrom 0 (ats ps) → largest (map pad_distance ps) ≤ length items
+pub pad_oldest : (channels : ℕ) (ps : List (ℕ × At)) (n : ℕ) (o : Samples) (items z : List Samples) → RisesFrom 0 (ats ps) → largest (map pad_distance ps) ≤ length items
     → pad_rest channels ps n (o ∷ items) z ≡ replicate (silent_at (pads_from_start ps) n) (silence channels) ++ (o ∷ pad_rest channels ps (n + 1) items z)
-pad_let_go channels ps n o items z r h =
+pad_oldest channels ps n o items z r h =
     let len : ℕ = n + length (o ∷ (items ++ z)) in
     let e : len ≡ (n + 1) + length (items ++ z) = omega arith in
     pad_first channels len ps n o (items ++ z)

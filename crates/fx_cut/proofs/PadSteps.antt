@@ -17,7 +17,7 @@ use Rattle.fx_cut.specs.PadState.{PadState, IsPad, all_padded, pad_acts, pad_aft
 use Rattle.fx_cut.proofs.Fallen.{fallen, stays, no_fall, stays-free, is_full, oldest-first}
 use Rattle.fx_cut.proofs.PendingLemmas.{none_of}
 use Rattle.fx_cut.proofs.PadLaws.{upto_more, length_from, length_padded, none-due, silence-bound, silence-parts}
-use Rattle.fx_cut.proofs.PadRest.{pad_new, pad_taken, pad_let_go, pad_drained}
+use Rattle.fx_cut.proofs.PadRest.{pad_new, pad_taken, pad_oldest, pad_drained}
 use Rattle.fx_frame.proofs.DryLaws.{dry-tail}
 
 -- where it is dry nothing is in hand, and no silence is to be given
@@ -88,7 +88,7 @@ module _ (s : PadState) (frame : Samples) (is : IsPad s) (dry : pad_acts.dry s �
       rw (none, silent_frames, running, k, next) (sym (
       pad_taken s.recipe.channels s.recipe.pads n s.line.items frame z
       ∙ ap (λ l. pad_rest s.recipe.channels s.recipe.pads n l z) split
-      ∙ pad_let_go s.recipe.channels s.recipe.pads n o line.items z is.pads.rising ends))
+      ∙ pad_oldest s.recipe.channels s.recipe.pads n o line.items z is.pads.rising ends))
 
   pub Took-inside : (line : Frames ℤ) → None ≡ fallen s.line.capacity s.line.items frame → line.items ≡ stays s.line.capacity s.line.items frame → Took pad_acts s (reached s line s.silent s.pending) frame
   Took-inside line e items = record { rest = λ z. ap (map plain) (left-inside line e items z); counted = refl; recipe_stays = refl }

@@ -13,7 +13,7 @@ use Rattle.fx_fixed.proofs.Signs.{nearest-neg}
 use Rattle.fx_fixed.proofs.AtMostWhole.{fits-neg, fits-pos, nearest-le, not-clipped, unclipped-neg, unclipped-pos}
 use Rattle.fx_frame_base.specs.Given.{given_samples, plain}
 use Rattle.fx_frame_base.specs.Rounded.{unclipped}
-use Rattle.fx_cut.specs.Fade.{both, weighted}
+use Rattle.fx_cut.specs.Fade.{weight_product, weighted}
 
 nearest-whole : (n d : ℕ) → 0 < d → nearest_natural (n * d) d ≡ n
 nearest-whole n d some =
@@ -49,13 +49,13 @@ nearest-times (negsuc n) a b q some positive =
 weighted-times : (x : ℤ) (a b q : ℕ) → 0 < a → 0 < q → weighted (a * b, a * q) x ≡ weighted (b, q) x
 weighted-times x a b q some positive = ap clipping (nearest-times x a b q some positive)
 
-pub whole-left : (v w : ℕ × ℕ) (xs : List ℤ) → v.0 ≡ v.1 → 0 < v.1 → 0 < w.1 → map (weighted (both v w)) xs ≡ map (weighted w) xs
+pub whole-left : (v w : ℕ × ℕ) (xs : List ℤ) → v.0 ≡ v.1 → 0 < v.1 → 0 < w.1 → map (weighted (weight_product v w)) xs ≡ map (weighted w) xs
 whole-left v w [] same some positive = refl
 whole-left (a, c) (b, q) (x ∷ xs) same some positive =
     let one : weighted (a * b, c * q) x ≡ weighted (b, q) x = rw same (weighted-times x c b q some positive) in
     cc (one, whole-left (a, c) (b, q) xs same some positive)
 
-pub whole-right : (v w : ℕ × ℕ) (xs : List ℤ) → w.0 ≡ w.1 → 0 < v.1 → 0 < w.1 → map (weighted (both v w)) xs ≡ map (weighted v) xs
+pub whole-right : (v w : ℕ × ℕ) (xs : List ℤ) → w.0 ≡ w.1 → 0 < v.1 → 0 < w.1 → map (weighted (weight_product v w)) xs ≡ map (weighted v) xs
 whole-right (a, c) (b, q) xs same positive some =
     let turned : ◌≡◌ {A = ℕ × ℕ} (a * b, c * q) (b * a, q * c) = ap₂ (λ m n. (m, n)) (let e : a * b ≡ b * a = omega arith in e) (let e : c * q ≡ q * c = omega arith in e) in
     rw turned (whole-left (b, q) (a, c) xs same some positive)

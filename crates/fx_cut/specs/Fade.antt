@@ -18,13 +18,13 @@ weight zero n = (1, 1)
 weight (suc len) n = (min n (suc len), suc len)
 
 -- two weights multiplied
-abbrev pub both : ℕ × ℕ → ℕ × ℕ → ℕ × ℕ
-both v w = (v.0 * w.0, v.1 * w.1)
+abbrev pub weight_product : ℕ × ℕ → ℕ × ℕ → ℕ × ℕ
+weight_product v w = (v.0 * w.0, v.1 * w.1)
 
 -- the weight of frame n, where the sound stops at a place or does not stop
 abbrev pub weights : FadeShape → Option ℕ → ℕ → ℕ × ℕ
 weights f None n = weight f.fade_in n
-weights f (Some stop) n = both (weight f.fade_in n) (weight f.fade_out (stop - n))
+weights f (Some stop) n = weight_product (weight f.fade_in n) (weight f.fade_out (stop - n))
 
 -- a sample times a weight, rounded
 abbrev pub weighted : ℕ × ℕ → ℤ → ℤ × Bool

@@ -10,6 +10,7 @@ ghost use Rattle.fx_frame_base.specs.Rounded.{unclipped};
 ghost use Rattle.fx_cut.specs.Fade.{FadeArguments, fade_line, stop_in, until, weighted, weights, fade_with};
 ghost use Rattle.fx_cut.specs.FadeState.{fade_acts, fade_selects, faded_here, is_before, stop_determined, weights_determined};
 ghost use Rattle.fx_cut.specs.Selected.{IsSelectedState};
+ghost use Rattle.fx_frame_base.specs.Frame.{IsChannelCount};
 
 pub mod words;
 
@@ -313,7 +314,7 @@ impl Selected<PreparedFade> {
         stop: Option<At>,
         fade_out: u64,
     ) -> Result<Fade, AllocError>
-        requires channels { (1 ≤ channels) × (channels ≤ 16) }
+        requires channels { IsChannelCount channels }
         requires fades { (fade_in ≤ 2 ^ 40) × (fade_out ≤ 2 ^ 40) }
         requires line { stop_line (effective stop) fade_out ≤ 2 ^ 28 }
         ensures { IfOk result (IsNew fade_acts (fade_with channels fade_in (effective stop) fade_out)) }
@@ -334,7 +335,7 @@ impl Selected<PreparedFade> {
         frames: &[WideFrame],
         numbers: &[u64; 8],
     ) -> Result<Fade, ThawFault>
-        requires channels { (1 ≤ channels) × (channels ≤ 16) }
+        requires channels { IsChannelCount channels }
         requires fades { (fade_in ≤ 2 ^ 40) × (fade_out ≤ 2 ^ 40) }
         requires line { stop_line (effective stop) fade_out ≤ 2 ^ 28 }
         ensures recipe { IfOk result (λ t. t.arguments ≡ fade_with channels fade_in (effective stop) fade_out) }

@@ -1,6 +1,6 @@
 //! Lines whose capacity may be 0.
 ghost use Rattle.std.specs.Prelude.{◌≡◌, ◌≤◌, ◌*◌, ◌^◌, length, false, true, None, Some, if◌then◌else◌};
-ghost use Rattle.fx_frame_base.specs.Frame.{IsFrame};
+ghost use Rattle.fx_frame_base.specs.Frame.{IsChannelCount, IsFrame};
 ghost use Rattle.fx_frame_base.specs.Lists.{pieces};
 ghost use Rattle.fx_frame_line.specs.Line.{pushed, pushed_all, pushed_out};
 ghost use Rattle.fx_cut.specs.Selected.{GaveOldest};
@@ -13,7 +13,7 @@ use fx_frame_base::feed::see_samples;
 #[inline(always)]
 pub fn push_over(line: &mut Line, samples: &mut [i32]) -> bool
     requires channels { length samples.old ≡ line.old.channels }
-    requires frame { (1 ≤ length samples.old) × (length samples.old ≤ 16) }
+    requires frame { IsChannelCount (length samples.old) }
     ensures items { line.new.items ≡ pushed line.old samples.old }
     ensures capacity { line.new.capacity ≡ line.old.capacity }
     ensures channels { line.new.channels ≡ line.old.channels }

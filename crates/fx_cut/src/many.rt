@@ -2,6 +2,7 @@
 ghost use Rattle.std.specs.Prelude.{◌≡◌, ◌<◌, ◌≤◌, ◌+◌, ◌*◌, true, false, length};
 ghost use Rattle.fx_frame_base.specs.Feed.{PassedOn, TookWithinSpace, FedBlock, KeepsRest, LeavesSpace, MayTakeAll, UsesInput};
 ghost use Rattle.fx_frame_base.specs.Stage.{IsDry, kind, spent};
+ghost use Rattle.fx_frame_base.specs.Frame.{IsChannelCount};
 
 use fx_frame::{Passed, Passing, Stage};
 use fx_frame_base::feed::{feed_by_frames, frame_at, pass_by_calls, put_frame};
@@ -12,7 +13,7 @@ pub trait PassesMany: Stage {
     /// piece goes; none where the stage is in no state for that. It takes a frame only while the output has space for one more;
     /// where it has no space for one frame, none is taken.
     fn pass_many(&mut self, input: &[i32], output: &mut [i32]) -> Passed
-        requires channels { (1 ≤ (kind Self.acts self.old).inputs) × ((kind Self.acts self.old).inputs ≤ 16) }
+        requires channels { IsChannelCount (kind Self.acts self.old).inputs }
         requires below_limit { MayTakeAll Self.acts self.old input.now }
         ensures fed { FedBlock Self.acts self.old self.new result.taken input.now result.given output.new }
         ensures read { result.taken * (kind Self.acts self.old).inputs ≤ length input.now }
@@ -24,7 +25,7 @@ pub trait PassesMany: Stage {
 /// Passes a piece first, and then frame by frame. It takes a frame only while the output has space for one more; where it has
 /// no space for one frame, none is taken.
 fn feed_piece<S: PassesMany>(stage: &mut S, input: &[i32], output: &mut [i32]) -> Passed
-    requires channels { (1 ≤ (kind S.acts stage.old).inputs) × ((kind S.acts stage.old).inputs ≤ 16) }
+    requires channels { IsChannelCount (kind S.acts stage.old).inputs }
     requires below_limit { MayTakeAll S.acts stage.old input.now }
     ensures fed { FedBlock S.acts stage.old stage.new result.taken input.now result.given output.new }
     ensures read { result.taken * (kind S.acts stage.old).inputs ≤ length input.now }
@@ -52,7 +53,7 @@ fn feed_piece<S: PassesMany>(stage: &mut S, input: &[i32], output: &mut [i32]) -
 /// What `feed` does for a stage that can pass many frames: it gives what is pending, passes a piece, and then goes on frame by
 /// frame. It takes a frame only while the output has space for one more; where it has no space for one frame, none is taken.
 pub fn feed_by_pieces<S: PassesMany>(stage: &mut S, input: &[i32], output: &mut [i32]) -> Passed
-    requires channels { (1 ≤ (kind S.acts stage.old).inputs) × ((kind S.acts stage.old).inputs ≤ 16) }
+    requires channels { IsChannelCount (kind S.acts stage.old).inputs }
     requires below_limit { MayTakeAll S.acts stage.old input.now }
     ensures fed { FedBlock S.acts stage.old stage.new result.taken input.now result.given output.new }
     ensures read { result.taken * (kind S.acts stage.old).inputs ≤ length input.now }
@@ -85,7 +86,7 @@ pub fn pass_by_frame<S: Stage>(stage: &mut S, samples: &mut [i32]) -> Passing
     requires not_spent { spent S.acts stage.old ≡ false }
     requires channels { length samples.old ≡ (kind S.acts stage.old).inputs }
     requires same_channels { (kind S.acts stage.old).outputs ≡ (kind S.acts stage.old).inputs }
-    requires frame { (1 ≤ length samples.old) × (length samples.old ≤ 16) }
+    requires frame { IsChannelCount (length samples.old) }
     requires below_limit { (S.acts.counts stage.old).taken < (kind S.acts stage.old).limit }
     ensures passed { PassedOn S.acts result stage.old stage.new samples.old samples.new }
     ensures channels { length samples.new ≡ length samples.old }

@@ -8,6 +8,7 @@ ghost use Rattle.fx_frame_line.specs.Line.{IsLine};
 ghost use Rattle.fx_frame_base.specs.Stage.{Freezes, IsNew, Restores};
 ghost use Rattle.fx_cut.specs.Pad.{IsPads, PadArguments, lengths, pads_from_start, placed, silent_at, pad_with};
 ghost use Rattle.fx_cut.specs.PadState.{IsPad, IsPadCount, PadState, later_count, pad_acts, pad_rises, silence_from};
+ghost use Rattle.fx_frame_base.specs.Frame.{IsChannelCount};
 
 pub mod words;
 
@@ -282,7 +283,7 @@ impl Pad {
     /// stand before the first one from the end are in order, and the lengths together are at most `2^46`. It holds as many
     /// frames as the greatest distance of a pad from the end, at most `2^28`; AllocError where memory is refused.
     pub fn new(alloc: Global, channels: usize, pads: &[(u64, At)]) -> Result<Pad, AllocError>
-        requires channels { (1 ≤ channels) × (channels ≤ 16) }
+        requires channels { IsChannelCount channels }
         requires pads { IsPads pads.now }
         requires line { largest (map pad_distance pads.now) ≤ 2 ^ 28 }
         ensures { IfOk result (IsNew pad_acts (pad_with channels pads.now)) }
@@ -311,7 +312,7 @@ impl Pad {
         frames: &[WideFrame],
         numbers: &[u64; 8],
     ) -> Result<Pad, ThawFault>
-        requires channels { (1 ≤ channels) × (channels ≤ 16) }
+        requires channels { IsChannelCount channels }
         requires pads { IsPads pads.now }
         requires line { largest (map pad_distance pads.now) ≤ 2 ^ 28 }
         ensures recipe { IfOk result (λ t. t.recipe ≡ pad_with channels pads.now) }

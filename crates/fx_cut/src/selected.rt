@@ -9,6 +9,7 @@ ghost use Rattle.fx_frame_base.specs.Lists.{pieces};
 ghost use Rattle.fx_frame_base.specs.Stage.{Freezes, IsNew, is_enough, Restores};
 ghost use Rattle.fx_frame_base.specs.Given.{plain};
 ghost use Rattle.fx_cut.specs.Selected.{AreDetermined, IsSelectCount, Selects, SelectedState, given_before, made_along, determined_in, selected_acts, selected_here, CountsFirst, SelectsFirst, IsSelectedState};
+ghost use Rattle.fx_frame_base.specs.Frame.{IsChannelCount};
 
 use crate::lines::{exchange_full, push_over};
 use crate::many::{PassesMany, feed_by_pieces};
@@ -190,7 +191,7 @@ impl<S: Selection + Drop> Selected<S> {
 
     /// The stage of an effect of such a reach; AllocError where memory for its line is refused.
     pub(crate) fn of(alloc: Global, selection: S, reach: u64) -> Result<Selected<S>, AllocError>
-        requires channels { (1 ≤ S.selects.channels selection) × (S.selects.channels selection ≤ 16) }
+        requires channels { IsChannelCount (S.selects.channels selection) }
         requires reach { reach ≡ S.selects.reach selection }
         requires line { reach ≤ 2 ^ 28 }
         ensures { IfOk result (IsNew (selected_acts S.selects) selection) }
@@ -215,7 +216,7 @@ impl<S: Selection + Drop> Selected<S> {
         frames: &[WideFrame],
         numbers: &[u64; 8],
     ) -> Result<Selected<S>, ThawFault>
-        requires channels { (1 ≤ S.selects.channels selection) × (S.selects.channels selection ≤ 16) }
+        requires channels { IsChannelCount (S.selects.channels selection) }
         requires reach { reach ≡ S.selects.reach selection }
         requires line { reach ≤ 2 ^ 28 }
         ensures recipe { IfOk result (λ t. t.arguments ≡ selection) }

@@ -7,6 +7,7 @@ ghost use Rattle.fx_frame_base.specs.Stage.{Freezes, IsNew, Restores};
 ghost use Rattle.fx_cut.specs.Selected.{IsSelectedState};
 ghost use Rattle.fx_cut.specs.Trim.{TrimArguments, keeps, starts, trim_enough, trim_with};
 ghost use Rattle.fx_cut.specs.TrimState.{kept_count, trim_acts, trim_selects};
+ghost use Rattle.fx_frame_base.specs.Frame.{IsChannelCount};
 
 pub mod words;
 
@@ -266,7 +267,7 @@ impl Selected<Cuts> {
     /// one counts as that one. It holds as many frames as the greatest distance of a position from the end, at most `2^28`;
     /// AllocError where memory is refused.
     pub fn new(alloc: Global, channels: usize, positions: &[At]) -> Result<Trim, AllocError>
-        requires channels { (1 ≤ channels) × (channels ≤ 16) }
+        requires channels { IsChannelCount channels }
         requires line { largest (map end_distance positions.now) ≤ 2 ^ 28 }
         ensures { IfOk result (IsNew trim_acts (trim_with channels positions.now)) }
     {
@@ -283,7 +284,7 @@ impl Selected<Cuts> {
         frames: &[WideFrame],
         numbers: &[u64; 8],
     ) -> Result<Trim, ThawFault>
-        requires channels { (1 ≤ channels) × (channels ≤ 16) }
+        requires channels { IsChannelCount channels }
         requires line { largest (map end_distance positions.now) ≤ 2 ^ 28 }
         ensures recipe { IfOk result (λ t. t.arguments ≡ trim_with channels positions.now) }
         ensures frozen { IfOk result (λ t. Freezes trim_acts t frames.now numbers.now) }

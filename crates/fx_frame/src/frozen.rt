@@ -3,6 +3,7 @@ ghost use Rattle.std.specs.Prelude.{◌≡◌, ◌<◌, ◌≤◌, ◌^◌, ◌+
 ghost use Rattle.std.specs.Int.{w32, w64};
 ghost use Rattle.fx_frame_line.specs.Line.{IsLine};
 ghost use Rattle.fx_frame.specs.Frozen.{IsOnlyStored, IsStored, RefusesNotStored, RefusesUnless, line_of};
+ghost use Rattle.fx_frame_base.specs.Frame.{IsChannelCount};
 
 use crate::line::{Line, WideLine};
 use fx_frame_base::pending::thawed_pending;
@@ -29,7 +30,7 @@ pub fn thawed_line(
     capacity: usize,
     frames: &[WideFrame],
 ) -> Result<Line, ThawFault>
-    requires channels { (1 ≤ channels) × (channels ≤ 16) }
+    requires channels { IsChannelCount channels }
     requires capacity { capacity ≤ 2 ^ 28 }
     ensures found { IfOk result (λ l. l ≡ line_of channels capacity frames.now) }
     ensures line { IfOk result (IsLine w32) }
@@ -62,7 +63,7 @@ pub fn thawed_wide_line(
     capacity: usize,
     frames: &[WideFrame],
 ) -> Result<WideLine, ThawFault>
-    requires channels { (1 ≤ channels) × (channels ≤ 16) }
+    requires channels { IsChannelCount channels }
     requires capacity { capacity ≤ 2 ^ 28 }
     ensures found { IfOk result (λ l. l ≡ line_of channels capacity frames.now) }
     ensures line { IfOk result (IsLine w64) }
@@ -93,7 +94,7 @@ pub fn thawed_line_and_pending(
     frames: &[WideFrame],
     pending_count: u64,
 ) -> Result<(Line, Option<Frame>), ThawFault>
-    requires channels { (1 ≤ channels) × (channels ≤ 16) }
+    requires channels { IsChannelCount channels }
     requires capacity { capacity ≤ 2 ^ 28 }
     ensures found { IfOk result (λ p. IsStored channels capacity pending_count frames.now p.0 p.1) }
     ensures only { IfOk result (IsOnlyStored channels capacity pending_count frames.now) }

@@ -1,5 +1,6 @@
 //! Groups: frames that are exchanged with a line at once.
 ghost use Rattle.std.specs.Prelude.{◌≤◌, ◌*◌};
+ghost use Rattle.fx_frame_base.specs.Frame.{IsChannelCount};
 
 /// The maximum number of samples of a group. A buffer for them is cleared each time, so it is small.
 pub const SAMPLES_OF_GROUP: usize = 64;
@@ -9,7 +10,7 @@ pub const SAMPLES_OF_BATCH: usize = 16;
 
 /// The maximum number of frames of a group.
 pub fn frames_of_group(channels: usize) -> usize
-    requires { (1 ≤ channels) × (channels ≤ 16) }
+    requires { IsChannelCount channels }
     ensures some { 1 ≤ result }
     ensures free { result * channels ≤ 64 }
 {

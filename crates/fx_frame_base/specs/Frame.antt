@@ -7,6 +7,10 @@ use Rattle.std.specs.Int.{w32, w64}
 abbrev pub Samples : Type 0
 Samples = List ℤ
 
+-- so many channels a frame can have
+abbrev pub IsChannelCount : ℕ → Type 0
+IsChannelCount n = (1 ≤ n) × (n ≤ 16)
+
 -- 1 to 16 samples, each of which fits
 pub record IsFrameOf {X : Type 0} (Fits : X → Type 0) (xs : List X) : Type 0 where
   pub some : 1 ≤ length xs

@@ -7,6 +7,7 @@ ghost use Rattle.fx_frame_base.specs.Holds.{kinds};
 ghost use Rattle.fx_frame_base.specs.Lists.{pieces};
 ghost use Rattle.fx_frame_base.specs.Pipeline.{AreReadyFor, EachInPlace, PipelineThrough, outputs_of};
 ghost use Rattle.fx_frame_base.specs.Stage.{IsDry, IsLined, kind, spent};
+ghost use Rattle.fx_frame_base.specs.Frame.{IsChannelCount};
 
 use crate::frame::Frame;
 use crate::stage::Stage;
@@ -44,7 +45,7 @@ pub trait Feeds: Stage {
     /// Takes frames from the front of the input, and writes those that are given to the front of the output. It takes a frame
     /// only while the output has space for one more; where it has no space for one frame, none is taken.
     fn feed(&mut self, input: &[i32], output: &mut [i32]) -> Passed
-        requires channels { (1 ≤ (kind Self.acts self.old).inputs) × ((kind Self.acts self.old).inputs ≤ 16) }
+        requires channels { IsChannelCount (kind Self.acts self.old).inputs }
         requires below_limit { MayTakeAll Self.acts self.old input.now }
         ensures fed { FedBlock Self.acts self.old self.new result.taken input.now result.given output.new }
         ensures read { result.taken * (kind Self.acts self.old).inputs ≤ length input.now }
@@ -65,7 +66,7 @@ pub trait Feeds: Stage {
         requires not_spent { spent Self.acts self.old ≡ false }
         requires channels { length samples.old ≡ (kind Self.acts self.old).inputs }
         requires same_channels { (kind Self.acts self.old).outputs ≡ (kind Self.acts self.old).inputs }
-        requires frame { (1 ≤ length samples.old) × (length samples.old ≤ 16) }
+        requires frame { IsChannelCount (length samples.old) }
         requires below_limit { (Self.acts.counts self.old).taken < (kind Self.acts self.old).limit }
         ensures passed { PassedOn Self.acts result self.old self.new samples.old samples.new }
         ensures channels { length samples.new ≡ length samples.old }
@@ -90,10 +91,10 @@ pub trait Feeds: Stage {
         requires not_ended { (Self.acts.counts self.old).ended ≡ false }
         requires not_spent { spent Self.acts self.old ≡ false }
         requires channels { channels.old ≡ (kind Self.acts self.old).inputs }
-        requires frame { (1 ≤ channels.old) × (channels.old ≤ 16) }
+        requires frame { IsChannelCount channels.old }
         requires below_limit { (Self.acts.counts self.old).taken < (kind Self.acts self.old).limit }
         ensures passed { PassedOn Self.acts result self.old self.new (take channels.old places.old) (take channels.new places.new) }
-        ensures frame { (1 ≤ channels.new) × (channels.new ≤ 16) }
+        ensures frame { IsChannelCount channels.new }
         ensures determined { Self.acts.dry self.new ≡ true → IsDry Self.acts self.new }
     {
         let mut frame = frame_at(places, 0, *channels);
@@ -115,7 +116,7 @@ pub trait Feeds: Stage {
         input: &[i32],
         output: &mut [i32],
     ) -> usize
-        requires frame { (1 ≤ channels) × (channels ≤ 16) }
+        requires frame { IsChannelCount channels }
         requires ready { AreReadyFor Self.acts channels count stages.old }
         requires outputs { outputs ≡ outputs_of channels (kinds Self.acts stages.old) }
         requires input { count * channels ≤ length input.now }
@@ -156,7 +157,7 @@ pub trait Feeds: Stage {
         requires not_ended { (Self.acts.counts self.old).ended ≡ false }
         requires one_to_one { IsOneToOne Self.acts count self.old }
         requires ahead { IsAhead Self.acts count self.old }
-        requires frame { (1 ≤ (kind Self.acts self.old).inputs) × ((kind Self.acts self.old).inputs ≤ 16) }
+        requires frame { IsChannelCount (kind Self.acts self.old).inputs }
         requires same_channels { (kind Self.acts self.old).outputs ≡ (kind Self.acts self.old).inputs }
         requires samples { length samples.old ≡ count * (kind Self.acts self.old).inputs }
         requires below_limit { (Self.acts.counts self.old).taken + count ≤ (kind Self.acts self.old).limit }
@@ -260,7 +261,7 @@ pub fn copy_samples(from: &[i32], to: &mut [i32])
 /// The frame of `channels` channels that lies from a place on.
 #[inline(always)]
 pub fn frame_at(input: &[i32], at: usize, channels: usize) -> Frame
-    requires channels { (1 ≤ channels) × (channels ≤ 16) }
+    requires channels { IsChannelCount channels }
     requires free { at + channels ≤ length input.now }
     ensures frame { result ≡ take channels (drop at input.now) }
     ensures channels { length result ≡ channels }
@@ -301,7 +302,7 @@ pub fn copy_frames(input: &[i32], output: &mut [i32], channels: usize) -> usize
 
 /// What `feed` does, for any stage, one frame at a time.
 pub fn feed_by_frames<S: Stage>(stage: &mut S, input: &[i32], output: &mut [i32]) -> Passed
-    requires channels { (1 ≤ (kind S.acts stage.old).inputs) × ((kind S.acts stage.old).inputs ≤ 16) }
+    requires channels { IsChannelCount (kind S.acts stage.old).inputs }
     requires below_limit { MayTakeAll S.acts stage.old input.now }
     ensures fed { FedBlock S.acts stage.old stage.new result.taken input.now result.given output.new }
     ensures read { result.taken * (kind S.acts stage.old).inputs ≤ length input.now }

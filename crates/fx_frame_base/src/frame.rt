@@ -1,6 +1,6 @@
-ghost use Rattle.std.specs.Prelude.{◌≡◌, ◌<◌, ◌≤◌, ◌↔◌, ◌∷◌, [], length, take, slice_index_or, Some, IsSome, IfSome};
+ghost use Rattle.std.specs.Prelude.{◌≡◌, ◌<◌, ◌↔◌, ◌∷◌, [], length, take, slice_index_or, Some, IsSome, IfSome};
 ghost use Rattle.std.specs.List.{All};
-ghost use Rattle.fx_frame_base.specs.Frame.{silence_of, padded_by, IsFrameOf};
+ghost use Rattle.fx_frame_base.specs.Frame.{IsChannelCount, IsFrameOf, padded_by, silence_of};
 ghost use Rattle.fx_frame_base.specs.Places.{IsPlaces, IsRead};
 
 use crate::sample::Sample;
@@ -67,7 +67,7 @@ fn sample_or_zero<T: Sample>(samples: &[T], place: usize) -> T
 impl<T: Sample> FrameOf<T> {
     /// The frame of these samples, one for each channel; None where there are none or more than 16.
     pub fn from_slice(samples: &[T]) -> Option<Self>
-        ensures some { IsSome result ↔ ((1 ≤ length samples.now) × (length samples.now ≤ 16)) }
+        ensures some { IsSome result ↔ (IsChannelCount (length samples.now)) }
         ensures value { IfSome result (λ f. f ≡ samples.now) }
     {
         let channels = samples.len();
@@ -80,7 +80,7 @@ impl<T: Sample> FrameOf<T> {
     /// The frame of these samples, of which there are 1 to 16.
     #[inline(always)]
     pub fn filled(samples: &[T]) -> Self
-        requires { (1 ≤ length samples.now) × (length samples.now ≤ 16) }
+        requires { IsChannelCount (length samples.now) }
         ensures { result ≡ samples.now }
     {
         FrameOf {
@@ -91,7 +91,7 @@ impl<T: Sample> FrameOf<T> {
 
     /// The same, of samples that fit: their width's bounds are known of them, so none is read on its own.
     pub fn copied(samples: &[T]) -> Self
-        requires len { (1 ≤ length samples.now) × (length samples.now ≤ 16) }
+        requires len { IsChannelCount (length samples.now) }
         requires fits { All T.Fits samples.now }
         ensures { result ≡ samples.now }
     {
@@ -123,7 +123,7 @@ impl<T: Sample> FrameOf<T> {
     /// The frame of the first samples, one for each of 1 to 16 channels. What is beyond them does not matter.
     #[inline(always)]
     pub fn of_first(channels: usize, samples: [T; 16]) -> Self
-        requires { (1 ≤ channels) × (channels ≤ 16) }
+        requires { IsChannelCount channels }
         ensures { result ≡ take channels samples }
     {
         FrameOf::filled(&samples[..channels])
@@ -131,7 +131,7 @@ impl<T: Sample> FrameOf<T> {
 
     /// A frame of 1 to 16 channels whose samples are all zero.
     pub fn silence(channels: usize) -> Self
-        requires { (1 ≤ channels) × (channels ≤ 16) }
+        requires { IsChannelCount channels }
         ensures { result ≡ silence_of T.silent_sample channels }
     {
         FrameOf {

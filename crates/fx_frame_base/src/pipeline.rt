@@ -2,7 +2,7 @@
 ghost use Rattle.std.specs.Prelude.{◌≡◌, ◌≤◌, ◌+◌, ◌*◌, ℕ, List, length, false, true};
 ghost use Rattle.fx_frame_base.specs.Early.{MayPassEarly, PassedEarly, PassedInPlace, WhileHeld};
 ghost use Rattle.fx_frame_base.specs.Feed.{IsAhead, IsOneToOne};
-ghost use Rattle.fx_frame_base.specs.Frame.{Samples};
+ghost use Rattle.fx_frame_base.specs.Frame.{IsChannelCount, Samples};
 ghost use Rattle.fx_frame_base.specs.Holds.{kinds};
 ghost use Rattle.fx_frame_base.specs.Pipeline.{AllAhead, AllKeep, AllOneToOne, AreReadyFor, EachInPlace};
 ghost use Rattle.fx_frame_base.specs.Stage.{IsLined, kind};
@@ -32,7 +32,7 @@ pub trait PassesWhile: Feeds {
         requires waits { (Self.acts.dry self.old ≡ true) × ((Self.acts.counts self.old).ended ≡ false) }
         requires one_to_one { IsOneToOne Self.acts count self.old }
         requires ahead { IsAhead Self.acts count self.old }
-        requires frame { (1 ≤ (kind Self.acts self.old).inputs) × ((kind Self.acts self.old).inputs ≤ 16) }
+        requires frame { IsChannelCount (kind Self.acts self.old).inputs }
         requires same_channels { (kind Self.acts self.old).outputs ≡ (kind Self.acts self.old).inputs }
         requires samples { length samples.old ≡ count * (kind Self.acts self.old).inputs }
         requires below_limit { (Self.acts.counts self.old).taken + count ≤ (kind Self.acts self.old).limit }
@@ -60,7 +60,7 @@ pub fn pass_in_place<S: PassesWhile, L: HoldsFrames>(
     count: usize,
     samples: &mut [i32],
 )
-    requires frame { (1 ≤ channels) × (channels ≤ 16) }
+    requires frame { IsChannelCount channels }
     requires some { 1 ≤ count }
     requires ready { AreReadyFor S.acts channels count stages.old }
     requires keep { AllKeep channels (kinds S.acts stages.old) }

@@ -1,5 +1,5 @@
 //! What a stage holds beside its lines and its arguments: the pending frame, the clips in it, and the counters.
-ghost use Rattle.std.specs.Prelude.{◌≡◌, ◌+◌, ◌<◌, ◌≤◌, ◌^◌, None, true, is_some};
+ghost use Rattle.std.specs.Prelude.{◌≡◌, ◌+◌, ◌<◌, ◌^◌, None, true, is_some};
 ghost use Rattle.fx_frame_base.specs.StageCore.{after_offering, after_passing, after_pending, core_counters, new_core, restored_core};
 
 use crate::frame::Frame;

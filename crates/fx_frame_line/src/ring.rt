@@ -5,6 +5,7 @@ ghost use Rattle.fx_frame_line.specs.Line.{HasChannelBefore, HasOldest, KeepsOth
 ghost use Rattle.fx_frame_line.specs.Ring.{IsShaped};
 ghost use Rattle.fx_frame_base.specs.Lists.{pieces};
 ghost use Rattle.circular_buffer.specs.Buffer.{buffer, keep_last};
+ghost use Rattle.fx_frame_base.specs.Frame.{IsChannelCount};
 
 use circular_buffer::HeapCircularBuffer;
 use std::alloc::{AllocError, Global};
@@ -40,7 +41,7 @@ impl<T: Copy> Model for Ring<T> {
 impl<T: Copy> Ring<T> {
     /// An empty ring buffer for frames of 1 to 16 samples, at most `2^28` of them; AllocError where memory is refused.
     pub fn new(alloc: Global, channels: usize, capacity: usize) -> Result<Self, AllocError>
-        requires channels { (1 ≤ channels) × (channels ≤ 16) }
+        requires channels { IsChannelCount channels }
         requires capacity { capacity ≤ 2 ^ 28 }
         ensures { IfOk result (λ r. r ≡ empty channels capacity) }
     {

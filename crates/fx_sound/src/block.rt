@@ -39,7 +39,7 @@ impl Progress {
         ensures short { source.new.short ≡ source.old.short }
         ensures counted { self.new ≡ after_frames self.old count }
     {
-        source.let_go(count * self.frame_size());
+        source.consume(count * self.frame_size());
         self.advance_by(count);
     }
 }

@@ -1,7 +1,8 @@
 //! Frames as bytes, for the inner loop.
 
-ghost use Rattle.std.specs.Prelude.{◌≡◌, ◌*◌, ◌≤◌, length};
+ghost use Rattle.std.specs.Prelude.{◌≡◌, ◌*◌, length};
 ghost use Rattle.fx_sound.specs.FrameCoding.{frame_size, coded_samples, bytes_of, clips_of};
+ghost use Rattle.fx_frame_base.specs.Frame.{IsChannelCount};
 
 use crate::bulk::{decode_into, encode_into};
 use fx_frame::{Coding, Frame};
@@ -10,7 +11,7 @@ use fx_frame_base::frame::MAX_CHANNELS;
 /// The frame of 1 to 16 channels that the bytes are.
 #[inline]
 pub fn decoded(coding: Coding, channels: usize, bytes: &[u8]) -> Frame
-    requires channels { (1 ≤ channels) × (channels ≤ 16) }
+    requires channels { IsChannelCount channels }
     requires bytes { length bytes.now ≡ frame_size coding channels }
     ensures samples { result ≡ coded_samples coding channels bytes.now }
     ensures channels { length result ≡ channels }
@@ -27,7 +28,7 @@ pub fn decoded(coding: Coding, channels: usize, bytes: &[u8]) -> Frame
 
 // The same for any number of channels.
 fn decoded_wide(coding: Coding, channels: usize, bytes: &[u8]) -> Frame
-    requires channels { (1 ≤ channels) × (channels ≤ 16) }
+    requires channels { IsChannelCount channels }
     requires bytes { length bytes.now ≡ frame_size coding channels }
     ensures samples { result ≡ coded_samples coding channels bytes.now }
     ensures channels { length result ≡ channels }

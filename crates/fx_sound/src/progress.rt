@@ -262,7 +262,7 @@ pub fn take_frame<R: ReadBeside>(
     let size = progress.size;
     let got = source.held().min(progress.wanted());
     if got < size {
-        source.let_go(got);
+        source.consume(got);
         progress.finish(got);
         return Ok(None);
     }
@@ -270,7 +270,7 @@ pub fn take_frame<R: ReadBeside>(
         return Err(TooLong);
     }
     let frame = decoded(progress.coding, progress.channels, source.peek(size));
-    source.let_go(size);
+    source.consume(size);
     progress.advance();
     Ok(Some(frame))
 }

@@ -94,7 +94,7 @@ impl<R> Source<R> {
 
     /// Removes the first bytes that are held.
     #[inline(always)]
-    pub fn let_go(&mut self, n: usize)
+    pub fn consume(&mut self, n: usize)
         requires { n ≤ length self.old.bytes }
         ensures bytes { self.new.bytes ≡ drop n self.old.bytes }
         ensures reader { self.new.reader ≡ self.old.reader }
@@ -205,7 +205,7 @@ impl<R: ByteIn> Source<R> {
         self.hold(out.len())?;
         let n = self.held().min(out.len());
         out[..n].copy_from_slice(self.peek(n));
-        self.let_go(n);
+        self.consume(n);
         Ok(n)
     }
 
@@ -223,7 +223,7 @@ impl<R: ByteIn> Source<R> {
             if n == 0 {
                 return Ok(got);
             }
-            self.let_go(n);
+            self.consume(n);
             got += n;
         }
         Ok(got)

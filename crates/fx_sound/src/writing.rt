@@ -3,6 +3,7 @@
 ghost use Rattle.std.specs.Prelude.{◌≡◌, ◌+◌, ◌<◌, ◌≤◌, ◌++◌, [], IsTrue, IfSome, Option, length};
 ghost use Rattle.fx_sound.specs.Kind.{is_coding_of};
 ghost use Rattle.fx_sound.specs.Writing.{known_size, format_fields, format_body, wav_head, au_head, written_head};
+ghost use Rattle.fx_frame_base.specs.Frame.{IsChannelCount};
 
 use super::fields::{AU_UNKNOWN, EXTENSIBLE, PCM_GUID, PLAIN, WAV_UNKNOWN};
 use super::head::Kind;
@@ -175,7 +176,7 @@ pub fn head_bytes(
     frames: Option<u64>,
 ) -> HeadBytes
     requires coding { IsTrue (is_coding_of kind coding) }
-    requires channels { (1 ≤ channels) × (channels ≤ 16) }
+    requires channels { IsChannelCount channels }
     requires rate { 1 ≤ rate }
     ensures { result ≡ written_head kind rate channels coding frames }
 {

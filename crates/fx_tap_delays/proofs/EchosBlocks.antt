@@ -15,7 +15,7 @@ use Rattle.fx_frame_base.proofs.Cores.{IsCore-passed, is-passed-core, passed_cor
 use Rattle.fx_frame_base.proofs.FedLaws.{Fed-then}
 use Rattle.fx_frame_base.proofs.Pieces.{length-pieces}
 use Rattle.fx_tap_delays.specs.Echo.{EchoArguments}
-use Rattle.fx_tap_delays.specs.EchosState.{EchosState, IsEchoLine, IsEchos, came_of, delay_at, echos_acts, fed, frame_of_lines, frames_of_lines, let_go, line_at, lines_after, or_silence, echo_places, series_lines_after, through_lines}
+use Rattle.fx_tap_delays.specs.EchosState.{EchosState, IsEchoLine, IsEchos, came_of, delay_at, echos_acts, fed, frame_of_lines, frames_of_lines, line_outputs, line_at, lines_after, or_silence, echo_places, series_lines_after, through_lines}
 use Rattle.fx_tap_delays.proofs.EchosLaws.{places-late}
 use Rattle.fx_tap_delays.proofs.EchosPieces.{pushed-within}
 use Rattle.fx_frame_base.proofs.Tabulate.{length-tabulate}
@@ -31,8 +31,8 @@ places-after : (c : ℕ) (ls : List (Frames ℤ)) (x b : Samples) → echo_place
 places-after c [] x b = refl
 places-after c (l ∷ ls) x b = ap (λ n. l.capacity + n) (places-after c ls x (or_silence c (pushed_out l (fed c x b))))
 
-frame-wide : (a : EchoArguments) (x : Samples) (gone : List Samples) → length (frame_of_lines a x gone).samples ≡ a.channels
-frame-wide a x gone = length-map _ _ ∙ length-tabulate _ 0 a.channels
+frame-wide : (a : EchoArguments) (x : Samples) (line_output : List Samples) → length (frame_of_lines a x line_output).samples ≡ a.channels
+frame-wide a x line_output = length-map _ _ ∙ length-tabulate _ 0 a.channels
 
 module _ (a : EchoArguments) where
   -- such a stage with no frame in hand, which has given what it took
@@ -41,7 +41,7 @@ module _ (a : EchoArguments) where
 
   -- what is given for a frame, and the lines after it
   abbrev pub made : List (Frames ℤ) → Samples → Given
-  made lines x = frame_of_lines a x (let_go a.channels lines x (replicate a.channels (pos 0)))
+  made lines x = frame_of_lines a x (line_outputs a.channels lines x (replicate a.channels (pos 0)))
 
   abbrev pub next : List (Frames ℤ) → Samples → List (Frames ℤ)
   next lines x = lines_after a.channels lines x (replicate a.channels (pos 0))
@@ -65,7 +65,7 @@ module _ (a : EchoArguments) where
         gave = record {
           was_wet = refl;
           gives = record { clips = (made lines x).clips; first = λ z. refl; counted = refl };
-          channels = frame-wide a x (let_go a.channels lines x (replicate a.channels (pos 0)));
+          channels = frame-wide a x (line_outputs a.channels lines x (replicate a.channels (pos 0)));
           due = λ e. omega arith;
           maximum = omega arith;
           recipe_stays = refl;

@@ -12,9 +12,9 @@ use Rattle.fx_frame_line.specs.Line.{Frames, IsSamples, pushed_out, empty}
 use Rattle.fx_frame_base.specs.Stage.{Gave}
 use Rattle.fx_frame_base.specs.StageCore.{new_core}
 use Rattle.fx_tap_delays.specs.Echo.{EchoArguments, IsEcho}
-use Rattle.fx_tap_delays.specs.EchosState.{EchosState, IsEchos, IsEchoLine, IsSeriesLine, after_push, came_of, delay_at, echos_acts, fed, frame_of_lines, frames_of_lines, let_go, line_at, lines_after, or_silence, echo_places, series_lines_after, through_lines}
+use Rattle.fx_tap_delays.specs.EchosState.{EchosState, IsEchos, IsEchoLine, IsSeriesLine, after_push, came_of, delay_at, echos_acts, fed, frame_of_lines, frames_of_lines, line_outputs, line_at, lines_after, or_silence, echo_places, series_lines_after, through_lines}
 use Rattle.fx_frame.proofs.DryLaws.{dry-pending, dry-tail}
-use Rattle.fx_tap_delays.proofs.EchosSeries.{Small, small-fed, small-gone}
+use Rattle.fx_tap_delays.proofs.EchosSeries.{Small, small-fed, small-line_output}
 use Rattle.fx_frame_base.proofs.Tabulate.{length-tabulate}
 
 -- ---- the lines after one frame more
@@ -66,9 +66,9 @@ after-sound c came j d (l ∷ ls) x b bound xs bs h (suc i) lt =
     let here : IsEchoLine c came j (d 0) l = simp add-zero at (h 0 (omega arith)) in
     let u = small-fed c j x b xs bs in
     let one : j + 1 ≡ suc j = omega arith in
-    let gone = rw one at (small-gone c j l (fed c x b) (series-of c came j (d 0) l here) u) in
+    let line_output = rw one at (small-line_output c j l (fed c x b) (series-of c came j (d 0) l here) u) in
     let at : suc j + i ≡ j + suc i = omega arith in
-    rw (← at) (after-sound c came (suc j) (λ i. d (suc i)) ls x (or_silence c (pushed_out l (fed c x b))) (omega arith) xs gone
+    rw (← at) (after-sound c came (suc j) (λ i. d (suc i)) ls x (or_silence c (pushed_out l (fed c x b))) (omega arith) xs line_output
     (λ i l. let at : suc j + i ≡ j + suc i = omega arith in rw at (h (suc i) (omega arith))) i (omega arith))
 
 pub length-after : (c : ℕ) (ls : List (Frames ℤ)) (x b : Samples) → length (lines_after c ls x b) ≡ length ls
@@ -128,8 +128,8 @@ frames-late s is =
 -- ---- what comes and goes
 
 -- what the lines let go for a frame
-abbrev pub series_gone : EchosState → Samples → List Samples
-series_gone s x = let_go s.arguments.channels s.lines x (replicate s.arguments.channels (pos 0))
+abbrev pub series_outputs : EchosState → Samples → List Samples
+series_outputs s x = line_outputs s.arguments.channels s.lines x (replicate s.arguments.channels (pos 0))
 
 abbrev pub series_after : EchosState → Samples → List (Frames ℤ)
 series_after s x = lines_after s.arguments.channels s.lines x (replicate s.arguments.channels (pos 0))
@@ -170,12 +170,12 @@ abbrev pub drained_echos : EchosState → List (Frames ℤ) → ℕ → EchosSta
 drained_echos s lines clips = record s { lines = lines; core = record s.core { given = s.core.given + 1; clips = s.core.clips + clips }; tail = s.tail - 1 }
 
 silence-step : (a : EchoArguments) (lines : List (Frames ℤ)) (silent_frame : Samples) (tail : ℕ) → 0 < tail
-    → through_lines a lines (replicate tail silent_frame) ≡ frame_of_lines a silent_frame (let_go a.channels lines silent_frame (replicate a.channels (pos 0))) ∷ through_lines a (lines_after a.channels lines silent_frame (replicate a.channels (pos 0))) (replicate (tail - 1) silent_frame)
+    → through_lines a lines (replicate tail silent_frame) ≡ frame_of_lines a silent_frame (line_outputs a.channels lines silent_frame (replicate a.channels (pos 0))) ∷ through_lines a (lines_after a.channels lines silent_frame (replicate a.channels (pos 0))) (replicate (tail - 1) silent_frame)
 silence-step a lines silent_frame zero some = absurd (omega arith)
 silence-step a lines silent_frame (suc t) some = rw sub-one refl
 
 pub Gave-silence : (s : EchosState) (lines : List (Frames ℤ)) (silent_frame out : Samples) (clips : ℕ) → IsEchos s → s.core.pending ≡ None → 0 < s.tail → silent_frame ≡ silence s.arguments.channels → lines ≡ series_after s silent_frame
-    → out ≡ (frame_of_lines s.arguments silent_frame (series_gone s silent_frame)).samples → clips ≡ (frame_of_lines s.arguments silent_frame (series_gone s silent_frame)).clips → length out ≡ s.arguments.channels → Gave echos_acts s (drained_echos s lines clips) out
+    → out ≡ (frame_of_lines s.arguments silent_frame (series_outputs s silent_frame)).samples → clips ≡ (frame_of_lines s.arguments silent_frame (series_outputs s silent_frame)).clips → length out ≡ s.arguments.channels → Gave echos_acts s (drained_echos s lines clips) out
 Gave-silence s lines silent_frame out clips is none some q lines_are out_is clips_are long =
     let over = ended-tail s is some in
     let counted : s.core.given + 0 + s.tail ≡ s.core.taken + sum_of_delays s.arguments.echo.taps = rw (none, over) at is.counted in

@@ -11,7 +11,7 @@ use Rattle.fx_frame_base.specs.Frame.{Samples, silence}
 use Rattle.fx_frame_line.specs.Line.{Frames, pushed_out, channel_of, empty}
 use Rattle.fx_tap_delays.specs.Echo.{EchoArguments}
 use Rattle.fx_tap_delays.specs.Echos.{decays, echos, echos_frame, passed, sum_below, way}
-use Rattle.fx_tap_delays.specs.EchosState.{after_push, delay_at, fed, frame_of_lines, let_go, lines_after, or_silence, through_lines}
+use Rattle.fx_tap_delays.specs.EchosState.{after_push, delay_at, fed, frame_of_lines, line_outputs, lines_after, or_silence, through_lines}
 use Rattle.fx_frame_base.specs.Lists.{tabulate}
 use Rattle.fx_tap_sums.specs.Products.{sum_of_products}
 use Rattle.fx_frame_base.specs.Given.{given_samples}
@@ -127,11 +127,11 @@ module _ (c : ℕ) (w : List Samples) (es : List Tap) where
   series_line n j = record { items = tabulate (taken_at j) (n - min n (delay_at es j)) (min n (delay_at es j)); capacity = delay_at es j; channels = c }
 
   -- what was let go is read as what comes out of j lines
-  abbrev IsGone : ℕ → ℕ → Samples → Type 0
-  IsGone n j b = (k : ℕ) → k < c → get_or b k (pos 0) ≡ passed es (sample_before w n) j k
+  abbrev IsLineOutput : ℕ → ℕ → Samples → Type 0
+  IsLineOutput n j b = (k : ℕ) → k < c → get_or b k (pos 0) ≡ passed es (sample_before w n) j k
 
-  fed-is : (n j : ℕ) (b : Samples) → IsGone n j b → fed c (get_or w n []) b ≡ taken_at j n
-  fed-is n j b gone = tabulate-same _ _ 0 0 c (λ k l. rw (before-now w n (0 + k), gone (0 + k) (rw zero-add l)) refl)
+  fed-is : (n j : ℕ) (b : Samples) → IsLineOutput n j b → fed c (get_or w n []) b ≡ taken_at j n
+  fed-is n j b line_output = tabulate-same _ _ 0 0 c (λ k l. rw (before-now w n (0 + k), line_output (0 + k) (rw zero-add l)) refl)
 
   whole-items : (n j : ℕ) → tabulate (taken_at j) (n - min n (delay_at es j)) (min n (delay_at es j)) ++ taken_at j n ∷ [] ≡ tabulate (taken_at j) (n - min n (delay_at es j)) (min n (delay_at es j) + 1)
   whole-items n j =
@@ -151,14 +151,14 @@ module _ (c : ℕ) (w : List Samples) (es : List Tap) where
       (ap (λ m. drop (m - d) (tabulate (taken_at j) (n - min n d) (min n d) ++ taken_at j n ∷ [])) long ∙ ap (drop (min n d + 1 - d)) whole ∙ cut
       ∙ ap (λ m. tabulate (taken_at j) m (min n d + 1 - (min n d + 1 - d))) at ∙ ap (tabulate (taken_at j) (n + 1 - min (n + 1) d)) left)
 
-  gone-by : (n j : ℕ) (b : Bool) → j < length es → 1 ≤ delay_at es j → nat_lt (length (series_line n j).items) (delay_at es j) ≡ b
-      → IsGone n (suc j) (or_silence c (if b then None else slice_get ((series_line n j).items ++ taken_at j n ∷ []) 0))
-  gone-by n j true lt some t k l =
+  line_output-by : (n j : ℕ) (b : Bool) → j < length es → 1 ≤ delay_at es j → nat_lt (length (series_line n j).items) (delay_at es j) ≡ b
+      → IsLineOutput n (suc j) (or_silence c (if b then None else slice_get ((series_line n j).items ++ taken_at j n ∷ []) 0))
+  line_output-by n j true lt some t k l =
       let d : ℕ = delay_at es j in
       let long = length-tabulate (taken_at j) (n - min n d) (min n d) in
       let less = ltb-true _ _ t in
       zeros-sample c k ∙ sym (passed-early w es n j k lt (omega arith))
-  gone-by n j false lt some t k l =
+  line_output-by n j false lt some t k l =
       let d : ℕ = delay_at es j in
       let long = length-tabulate (taken_at j) (n - min n d) (min n d) in
       let full = ltb-false _ _ t in
@@ -170,17 +170,17 @@ module _ (c : ℕ) (w : List Samples) (es : List Tap) where
       rw first (read-table (λ k. sample_before w (n - d) 0 k +ℤ passed es (sample_before w (n - d)) j k) 0 c k (pos 0) l
       ∙ ap (λ m. sample_before w (n - d) 0 m +ℤ passed es (sample_before w (n - d)) j m) (zero-add k) ∙ sym (passed-more w es n j k lt h))
 
-  gone-is : (n j : ℕ) → j < length es → 1 ≤ delay_at es j → IsGone n (suc j) (or_silence c (pushed_out (series_line n j) (taken_at j n)))
-  gone-is n j lt some = gone-by n j (nat_lt (length (series_line n j).items) (delay_at es j)) lt some refl
+  line_output-is : (n j : ℕ) → j < length es → 1 ≤ delay_at es j → IsLineOutput n (suc j) (or_silence c (pushed_out (series_line n j) (taken_at j n)))
+  line_output-is n j lt some = line_output-by n j (nat_lt (length (series_line n j).items) (delay_at es j)) lt some refl
 
   -- the lines after one frame more, and what they let go
-  series-step : (n j count : ℕ) (b : Samples) → ((i : ℕ) → i < length es → 1 ≤ delay_at es i) → j + count ≤ length es → IsGone n j b
+  series-step : (n j count : ℕ) (b : Samples) → ((i : ℕ) → i < length es → 1 ≤ delay_at es i) → j + count ≤ length es → IsLineOutput n j b
       → (lines_after c (tabulate (series_line n) j count) (get_or w n []) b ≡ tabulate (series_line (n + 1)) j count)
-      × ((k : ℕ) → k < c → channel_of (let_go c (tabulate (series_line n) j count) (get_or w n []) b) k (pos 0) ≡ tabulate (λ i. passed es (sample_before w n) (suc i) k) j count)
-  series-step n j zero b some free gone = (refl, λ k l. refl)
-  series-step n j (suc count) b some free gone =
-      let u = fed-is n j b gone in
-      let next = gone-is n j (omega arith) (some j (omega arith)) in
+      × ((k : ℕ) → k < c → channel_of (line_outputs c (tabulate (series_line n) j count) (get_or w n []) b) k (pos 0) ≡ tabulate (λ i. passed es (sample_before w n) (suc i) k) j count)
+  series-step n j zero b some free line_output = (refl, λ k l. refl)
+  series-step n j (suc count) b some free line_output =
+      let u = fed-is n j b line_output in
+      let next = line_output-is n j (omega arith) (some j (omega arith)) in
       let more = series-step n (suc j) count (or_silence c (pushed_out (series_line n j) (taken_at j n))) some (omega arith) next in (
         rw u (ap (λ l. l ∷ lines_after c (tabulate (series_line n) (suc j) count) (get_or w n []) (or_silence c (pushed_out (series_line n j) (taken_at j n)))) (push-is n j) ∙ ap (λ ls. series_line (n + 1) j ∷ ls) more.0),
         λ k l. rw (u, next k l) (ap (λ ys. passed es (sample_before w n) (suc j) k ∷ ys) (more.1 k l)),
@@ -196,12 +196,12 @@ module _ (a : EchoArguments) (w : List Samples) (some : (i : ℕ) → i < length
   abbrev series_lines_at : ℕ → List (Frames ℤ)
   series_lines_at n = tabulate (series_line a.channels w a.echo.taps n) 0 (length a.echo.taps)
 
-  silent-gone : (n : ℕ) → IsGone a.channels w a.echo.taps n 0 (replicate a.channels (pos 0))
-  silent-gone n k l = zeros-sample a.channels k
+  silent-line_output : (n : ℕ) → IsLineOutput a.channels w a.echo.taps n 0 (replicate a.channels (pos 0))
+  silent-line_output n k l = zeros-sample a.channels k
 
-  frame-is : (n : ℕ) → frame_of_lines a (get_or w n []) (let_go a.channels (series_lines_at n) (get_or w n []) (replicate a.channels (pos 0))) ≡ echos_frame a (sample_before w n)
+  frame-is : (n : ℕ) → frame_of_lines a (get_or w n []) (line_outputs a.channels (series_lines_at n) (get_or w n []) (replicate a.channels (pos 0))) ≡ echos_frame a (sample_before w n)
   frame-is n =
-      let step = series-step a.channels w a.echo.taps n 0 (length a.echo.taps) (replicate a.channels (pos 0)) some (omega arith) (silent-gone n) in
+      let step = series-step a.channels w a.echo.taps n 0 (length a.echo.taps) (replicate a.channels (pos 0)) some (omega arith) (silent-line_output n) in
       ap given_samples (tabulate-same _ _ 0 0 a.channels (λ k l.
       ap (λ z. rounding (a.echo.gain_out *ℤ z) (UNIT * UNIT))
       (ap (λ z. (a.echo.gain_in *ℤ get_or (get_or w n []) (0 + k) (pos 0)) +ℤ sum_of_products (decays a.echo.taps) z) (step.1 (0 + k) (rw zero-add l))
@@ -217,11 +217,11 @@ module _ (a : EchoArguments) (w : List Samples) (some : (i : ℕ) → i < length
       let first : get_or w n [] ≡ x = cc in
       let left : drop (n + 1) w ≡ xs = cc in
       let one : n + 1 ≡ suc n = omega arith in
-      let step = series-step a.channels w a.echo.taps n 0 (length a.echo.taps) (replicate a.channels (pos 0)) some (omega arith) (silent-gone n) in
+      let step = series-step a.channels w a.echo.taps n 0 (length a.echo.taps) (replicate a.channels (pos 0)) some (omega arith) (silent-line_output n) in
       let rest = run-is (n + 1) xs left (omega arith) in
       let frame = frame-is n in
       rw (← first) (
-      ap (λ ls. frame_of_lines a (get_or w n []) (let_go a.channels (series_lines_at n) (get_or w n []) (replicate a.channels (pos 0))) ∷ through_lines a ls xs) step.0
+      ap (λ ls. frame_of_lines a (get_or w n []) (line_outputs a.channels (series_lines_at n) (get_or w n []) (replicate a.channels (pos 0))) ∷ through_lines a ls xs) step.0
       ∙ ap (λ y. y ∷ through_lines a (series_lines_at (n + 1)) xs) frame
       ∙ ap (λ ys. echos_frame a (sample_before w n) ∷ ys) (rest ∙ ap (λ m. tabulate (λ m. echos_frame a (sample_before w m)) m (length xs)) one))
 

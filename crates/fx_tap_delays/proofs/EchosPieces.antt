@@ -13,7 +13,7 @@ use Rattle.fx_frame_line.specs.Line.{Frames, channel_of, empty, latest_frames, p
 use Rattle.fx_frame_base.specs.Lists.{pieces, tabulate}
 use Rattle.fx_frame_base.proofs.Pieces.{get_or-piece, length-pieces}
 use Rattle.fx_tap_delays.specs.Echo.{EchoArguments}
-use Rattle.fx_tap_delays.specs.EchosState.{after_push, fed, frame_of_lines, gone_at, let_go, line_at, lines_after, or_silence, series_lines_after, through_lines}
+use Rattle.fx_tap_delays.specs.EchosState.{after_push, fed, frame_of_lines, line_outputs_at, line_outputs, line_at, lines_after, or_silence, series_lines_after, through_lines}
 use Rattle.fx_tap_sums.specs.Products.{sum_of_products}
 use Rattle.fx_frame.proofs.SamplePieces.{pieces-sides}
 use Rattle.fx_tap_delays.proofs.Delaying.{index-take}
@@ -108,9 +108,9 @@ fed_all c (x ∷ xs) [] = []
 fed_all c (x ∷ xs) (b ∷ bs) = fed c x b ∷ fed_all c xs bs
 
 -- what each line lets go for all frames
-abbrev pub series_gone : ℕ → List (Frames ℤ) → List Samples → List Samples → List (List Samples)
-series_gone c [] xs bs = []
-series_gone c (l ∷ ls) xs bs = let_out c l (fed_all c xs bs) ∷ series_gone c ls xs (let_out c l (fed_all c xs bs))
+abbrev pub series_outputs : ℕ → List (Frames ℤ) → List Samples → List Samples → List (List Samples)
+series_outputs c [] xs bs = []
+series_outputs c (l ∷ ls) xs bs = let_out c l (fed_all c xs bs) ∷ series_outputs c ls xs (let_out c l (fed_all c xs bs))
 
 -- the lines after all frames
 abbrev pub series_after : ℕ → List (Frames ℤ) → List Samples → List Samples → List (Frames ℤ)
@@ -119,13 +119,13 @@ series_after c (l ∷ ls) xs bs = after_all l (fed_all c xs bs) ∷ series_after
 
 -- what all lines let go for one of the frames
 abbrev pub column : ℕ → List (List Samples) → List Samples
-column i gone = map (λ (gs : List Samples). get_or gs i []) gone
+column i line_output = map (λ (gs : List Samples). get_or gs i []) line_output
 
-series-first : (c : ℕ) (ls : List (Frames ℤ)) (x b : Samples) (xs bs : List Samples) → column 0 (series_gone c ls (x ∷ xs) (b ∷ bs)) ≡ let_go c ls x b
+series-first : (c : ℕ) (ls : List (Frames ℤ)) (x b : Samples) (xs bs : List Samples) → column 0 (series_outputs c ls (x ∷ xs) (b ∷ bs)) ≡ line_outputs c ls x b
 series-first c [] x b xs bs = refl
 series-first c (l ∷ ls) x b xs bs = ap (λ gs. or_silence c (pushed_out l (fed c x b)) ∷ gs) (series-first c ls x (or_silence c (pushed_out l (fed c x b))) xs (let_out c (after_push l (fed c x b)) (fed_all c xs bs)))
 
-series-next : (c i : ℕ) (ls : List (Frames ℤ)) (x b : Samples) (xs bs : List Samples) → column (suc i) (series_gone c ls (x ∷ xs) (b ∷ bs)) ≡ column i (series_gone c (lines_after c ls x b) xs bs)
+series-next : (c i : ℕ) (ls : List (Frames ℤ)) (x b : Samples) (xs bs : List Samples) → column (suc i) (series_outputs c ls (x ∷ xs) (b ∷ bs)) ≡ column i (series_outputs c (lines_after c ls x b) xs bs)
 series-next c i [] x b xs bs = refl
 series-next c i (l ∷ ls) x b xs bs =
     ap (λ gs. get_or (let_out c (after_push l (fed c x b)) (fed_all c xs bs)) i [] ∷ gs) (series-next c i ls x (or_silence c (pushed_out l (fed c x b))) xs (let_out c (after_push l (fed c x b)) (fed_all c xs bs)))
@@ -146,26 +146,26 @@ series_after-is c ls (x ∷ xs) =
     series-lines c ls x (replicate c (pos 0)) xs (replicate (length xs) (replicate c (pos 0))) ∙ series_after-is c (lines_after c ls x (replicate c (pos 0))) xs
 
 -- and so does what they let go
-pub column-is : (c i : ℕ) (ls : List (Frames ℤ)) (xs : List Samples) → i < length xs → column i (series_gone c ls xs (replicate (length xs) (replicate c (pos 0)))) ≡ gone_at c ls xs i
+pub column-is : (c i : ℕ) (ls : List (Frames ℤ)) (xs : List Samples) → i < length xs → column i (series_outputs c ls xs (replicate (length xs) (replicate c (pos 0)))) ≡ line_outputs_at c ls xs i
 column-is c i ls [] lt = absurd (omega arith)
 column-is c zero ls (x ∷ xs) lt = series-first c ls x (replicate c (pos 0)) xs (replicate (length xs) (replicate c (pos 0)))
 column-is c (suc i) ls (x ∷ xs) lt =
     series-next c i ls x (replicate c (pos 0)) xs (replicate (length xs) (replicate c (pos 0))) ∙ column-is c i (lines_after c ls x (replicate c (pos 0))) xs (omega arith)
 
 -- what is given, frame by frame
-pub through-table : (a : EchoArguments) (ls : List (Frames ℤ)) (xs : List Samples) → through_lines a ls xs ≡ tabulate (λ i. frame_of_lines a (get_or xs i []) (gone_at a.channels ls xs i)) 0 (length xs)
+pub through-table : (a : EchoArguments) (ls : List (Frames ℤ)) (xs : List Samples) → through_lines a ls xs ≡ tabulate (λ i. frame_of_lines a (get_or xs i []) (line_outputs_at a.channels ls xs i)) 0 (length xs)
 through-table a ls [] = refl
 through-table a ls (x ∷ xs) =
     let next : List (Frames ℤ) = lines_after a.channels ls x (replicate a.channels (pos 0)) in
-    ap (λ gs. frame_of_lines a x (let_go a.channels ls x (replicate a.channels (pos 0))) ∷ gs)
-    (through-table a next xs ∙ tabulate-same (λ i. frame_of_lines a (get_or xs i []) (gone_at a.channels next xs i)) (λ i. frame_of_lines a (get_or (x ∷ xs) i []) (gone_at a.channels ls (x ∷ xs) i)) 0 1 (length xs) (λ k l.
+    ap (λ gs. frame_of_lines a x (line_outputs a.channels ls x (replicate a.channels (pos 0))) ∷ gs)
+    (through-table a next xs ∙ tabulate-same (λ i. frame_of_lines a (get_or xs i []) (line_outputs_at a.channels next xs i)) (λ i. frame_of_lines a (get_or (x ∷ xs) i []) (line_outputs_at a.channels ls (x ∷ xs) i)) 0 1 (length xs) (λ k l.
     let at : 0 + k ≡ k = zero-add k in
     let on : 1 + k ≡ suc k = omega arith in
     rw (at, on) refl))
 
 pub through-more : (a : EchoArguments) (ls : List (Frames ℤ)) (xs ys : List Samples) → through_lines a ls (xs ++ ys) ≡ through_lines a ls xs ++ through_lines a (series_lines_after a.channels ls xs) ys
 through-more a ls [] ys = refl
-through-more a ls (x ∷ xs) ys = ap (λ gs. frame_of_lines a x (let_go a.channels ls x (replicate a.channels (pos 0))) ∷ gs) (through-more a (lines_after a.channels ls x (replicate a.channels (pos 0))) xs ys)
+through-more a ls (x ∷ xs) ys = ap (λ gs. frame_of_lines a x (line_outputs a.channels ls x (replicate a.channels (pos 0))) ∷ gs) (through-more a (lines_after a.channels ls x (replicate a.channels (pos 0))) xs ys)
 
 pub series_lines-more : (c : ℕ) (ls : List (Frames ℤ)) (xs ys : List Samples) → series_lines_after c ls (xs ++ ys) ≡ series_lines_after c (series_lines_after c ls xs) ys
 series_lines-more c ls [] ys = refl
@@ -222,15 +222,15 @@ flat-fits xs h = All-from_get_or (FitsSigned w64) xs (pos 0) (λ i l. fits_signe
 
 -- ---- one line more
 
-pub series_lines-step : (c p : ℕ) (old now : List (Frames ℤ)) (new : Frames ℤ) (xs bs gone : List Samples) (W : List (Frames ℤ)) → p < length old → length now ≡ length old
-    → new ≡ after_all (line_at old p) (fed_all c xs bs) → gone ≡ let_out c (line_at old p) (fed_all c xs bs)
-    → take p now ++ series_after c (drop p old) xs bs ≡ W → take (p + 1) (set now p new) ++ series_after c (drop (p + 1) old) xs gone ≡ W
-series_lines-step c p old now new xs bs gone W lt same is left e =
+pub series_lines-step : (c p : ℕ) (old now : List (Frames ℤ)) (new : Frames ℤ) (xs bs line_output : List Samples) (W : List (Frames ℤ)) → p < length old → length now ≡ length old
+    → new ≡ after_all (line_at old p) (fed_all c xs bs) → line_output ≡ let_out c (line_at old p) (fed_all c xs bs)
+    → take p now ++ series_after c (drop p old) xs bs ≡ W → take (p + 1) (set now p new) ++ series_after c (drop (p + 1) old) xs line_output ≡ W
+series_lines-step c p old now new xs bs line_output W lt same is left e =
     let more = drop_more old p (empty 0 0) lt in
     let cut = take_more_set now p new (omega arith) in
-    ap (λ l. l ++ series_after c (drop (p + 1) old) xs gone) cut
-    ∙ append_assoc (take p now) (new ∷ []) (series_after c (drop (p + 1) old) xs gone)
-    ∙ ap (λ l. take p now ++ (l ∷ series_after c (drop (p + 1) old) xs gone)) is
+    ap (λ l. l ++ series_after c (drop (p + 1) old) xs line_output) cut
+    ∙ append_assoc (take p now) (new ∷ []) (series_after c (drop (p + 1) old) xs line_output)
+    ∙ ap (λ l. take p now ++ (l ∷ series_after c (drop (p + 1) old) xs line_output)) is
     ∙ ap (λ gs. take p now ++ (after_all (line_at old p) (fed_all c xs bs) ∷ series_after c (drop (p + 1) old) xs gs)) left
     ∙ ap (λ ls. take p now ++ series_after c ls xs bs) (sym more) ∙ e
 
@@ -241,13 +241,13 @@ products-at [] (suc j) g rest = let e : suc j + 1 ≡ suc (j + 1) = omega arith 
 products-at (w ∷ ws) zero g rest = refl
 products-at (w ∷ ws) (suc j) g rest = let e : suc j + 1 ≡ suc (j + 1) = omega arith in rw e (products-at ws j g rest)
 
-pub sums-step : (c p i k : ℕ) (old : List (Frames ℤ)) (ws : List ℤ) (xs bs gone : List Samples) (S S' W : ℤ) → p < length old → gone ≡ let_out c (line_at old p) (fed_all c xs bs)
-    → S' ≡ S +ℤ (get_or ws (p + 1) (pos 0) *ℤ get_or (get_or gone i []) k (pos 0))
-    → S +ℤ sum_of_products (drop (p + 1) ws) (channel_of (column i (series_gone c (drop p old) xs bs)) k (pos 0)) ≡ W
-    → S' +ℤ sum_of_products (drop (p + 1 + 1) ws) (channel_of (column i (series_gone c (drop (p + 1) old) xs gone)) k (pos 0)) ≡ W
-sums-step c p i k old ws xs bs gone S S' W lt left added e =
+pub sums-step : (c p i k : ℕ) (old : List (Frames ℤ)) (ws : List ℤ) (xs bs line_output : List Samples) (S S' W : ℤ) → p < length old → line_output ≡ let_out c (line_at old p) (fed_all c xs bs)
+    → S' ≡ S +ℤ (get_or ws (p + 1) (pos 0) *ℤ get_or (get_or line_output i []) k (pos 0))
+    → S +ℤ sum_of_products (drop (p + 1) ws) (channel_of (column i (series_outputs c (drop p old) xs bs)) k (pos 0)) ≡ W
+    → S' +ℤ sum_of_products (drop (p + 1 + 1) ws) (channel_of (column i (series_outputs c (drop (p + 1) old) xs line_output)) k (pos 0)) ≡ W
+sums-step c p i k old ws xs bs line_output S S' W lt left added e =
     let more = drop_more old p (empty 0 0) lt in
-    let both = ap (λ l. S +ℤ sum_of_products (drop (p + 1) ws) (channel_of (column i (series_gone c l xs bs)) k (pos 0))) (sym more) ∙ e in
-    let whole = ap (λ gs. S +ℤ sum_of_products (drop (p + 1) ws) (get_or (get_or gs i []) k (pos 0) ∷ channel_of (column i (series_gone c (drop (p + 1) old) xs gs)) k (pos 0))) left ∙ both in
-    let cut = products-at ws (p + 1) (get_or (get_or gone i []) k (pos 0)) (channel_of (column i (series_gone c (drop (p + 1) old) xs gone)) k (pos 0)) in
+    let both = ap (λ l. S +ℤ sum_of_products (drop (p + 1) ws) (channel_of (column i (series_outputs c l xs bs)) k (pos 0))) (sym more) ∙ e in
+    let whole = ap (λ gs. S +ℤ sum_of_products (drop (p + 1) ws) (get_or (get_or gs i []) k (pos 0) ∷ channel_of (column i (series_outputs c (drop (p + 1) old) xs gs)) k (pos 0))) left ∙ both in
+    let cut = products-at ws (p + 1) (get_or (get_or line_output i []) k (pos 0)) (channel_of (column i (series_outputs c (drop (p + 1) old) xs line_output)) k (pos 0)) in
     rw added (omega (arith, ints, whole, cut))

@@ -13,7 +13,7 @@ use Rattle.fx_tap_delays.specs.Echo.{EchoArguments}
 use Rattle.fx_frame_base.specs.Given.{given_samples}
 use Rattle.fx_frame_base.proofs.Tabulate.{tabulate-same}
 use Rattle.fx_tap_delays.specs.Echos.{decays}
-use Rattle.fx_tap_delays.specs.EchosState.{IsSeriesLine, after_push, fed, frame_of_lines, let_go, line_at, lines_after, or_silence}
+use Rattle.fx_tap_delays.specs.EchosState.{IsSeriesLine, after_push, fed, frame_of_lines, line_outputs, line_at, lines_after, or_silence}
 use Rattle.fx_frame_base.specs.Lists.{tabulate}
 use Rattle.fx_tap_sums.specs.Products.{sum_of_products}
 use borrow.Author.Tests.{ltb-true, ltb-false}
@@ -50,13 +50,13 @@ small-fed c j x before h b =
 pub small-silence : (m c : ℕ) → Small m (replicate c (pos 0))
 small-silence m c k = rw (zeros-sample c k) (omega arith)
 
-gone-by : (m c : ℕ) (items : List Samples) (u : Samples) (b : Bool) → All (All (λ x. unsigned_abs x ≤ m)) items → Small m u → Small m (or_silence c (if b then None else slice_get (items ++ u ∷ []) 0))
-gone-by m c items u true h s = small-silence m c
-gone-by m c [] u false h s = s
-gone-by m c (f ∷ items) u false h s = small_of m f (All-head (All (λ x. unsigned_abs x ≤ m)) f items h)
+line_output-by : (m c : ℕ) (items : List Samples) (u : Samples) (b : Bool) → All (All (λ x. unsigned_abs x ≤ m)) items → Small m u → Small m (or_silence c (if b then None else slice_get (items ++ u ∷ []) 0))
+line_output-by m c items u true h s = small-silence m c
+line_output-by m c [] u false h s = s
+line_output-by m c (f ∷ items) u false h s = small_of m f (All-head (All (λ x. unsigned_abs x ≤ m)) f items h)
 
-pub small-gone : (c j : ℕ) (l : Frames ℤ) (u : Samples) → IsSeriesLine c j l → Small ((j + 1) * 2 ^ 31) u → Small ((j + 1) * 2 ^ 31) (or_silence c (pushed_out l u))
-small-gone c j l u is s = gone-by ((j + 1) * 2 ^ 31) c l.items u (nat_lt (length l.items) l.capacity) is.small s
+pub small-line_output : (c j : ℕ) (l : Frames ℤ) (u : Samples) → IsSeriesLine c j l → Small ((j + 1) * 2 ^ 31) u → Small ((j + 1) * 2 ^ 31) (or_silence c (pushed_out l u))
+small-line_output c j l u is s = line_output-by ((j + 1) * 2 ^ 31) c l.items u (nat_lt (length l.items) l.capacity) is.small s
 
 -- ---- one line more
 
@@ -82,13 +82,13 @@ same-line p old now e =
 
 pub sums-step : (c p k : ℕ) (old : List (Frames ℤ)) (D : List ℤ) (x b : Samples) (S S' W : ℤ) → p < length old → p < length D
     → S' ≡ S +ℤ (get_or D p (pos 0) *ℤ get_or (or_silence c (pushed_out (line_at old p) (fed c x b))) k (pos 0))
-    → S +ℤ sum_of_products (drop p D) (channel_of (let_go c (drop p old) x b) k (pos 0)) ≡ W
-    → S' +ℤ sum_of_products (drop (p + 1) D) (channel_of (let_go c (drop (p + 1) old) x (or_silence c (pushed_out (line_at old p) (fed c x b)))) k (pos 0)) ≡ W
+    → S +ℤ sum_of_products (drop p D) (channel_of (line_outputs c (drop p old) x b) k (pos 0)) ≡ W
+    → S' +ℤ sum_of_products (drop (p + 1) D) (channel_of (line_outputs c (drop (p + 1) old) x (or_silence c (pushed_out (line_at old p) (fed c x b)))) k (pos 0)) ≡ W
 sums-step c p k old D x b S S' W lt lt_D added e =
     let more = drop_more old p (empty 0 0) lt in
     let more_D = drop_more D p (pos 0) lt_D in
-    let first = ap (λ l. S +ℤ sum_of_products l (channel_of (let_go c (drop p old) x b) k (pos 0))) (sym more_D) ∙ e in
-    let both = ap (λ l. S +ℤ sum_of_products (get_or D p (pos 0) ∷ drop (p + 1) D) (channel_of (let_go c l x b) k (pos 0))) (sym more) ∙ first in
+    let first = ap (λ l. S +ℤ sum_of_products l (channel_of (line_outputs c (drop p old) x b) k (pos 0))) (sym more_D) ∙ e in
+    let both = ap (λ l. S +ℤ sum_of_products (get_or D p (pos 0) ∷ drop (p + 1) D) (channel_of (line_outputs c l x b) k (pos 0))) (sym more) ∙ first in
     rw added (omega (arith, ints, both))
 
 -- the numbers from 1 to n, added
@@ -128,9 +128,9 @@ bound-more p c k S S' d g decay small bound added left = bound-by p c k S S' d g
 
 -- ---- the frame that is given, and the frames that are stored
 
-pub echoed-is : (a : EchoArguments) (x sums : Samples) (gone : List Samples) → ((k : ℕ) → k < a.channels → slice_index_or sums k (pos 0) ≡ (a.echo.gain_in *ℤ slice_index_or x k (pos 0)) +ℤ sum_of_products (decays a.echo.taps) (channel_of gone k (pos 0)))
-    → given_samples (tabulate (λ k. rounding (a.echo.gain_out *ℤ slice_index_or sums k (pos 0)) (UNIT * UNIT)) 0 a.channels) ≡ frame_of_lines a x gone
-echoed-is a x sums gone h = ap given_samples (tabulate-same _ _ 0 0 a.channels (λ k l. ap (λ z. rounding (a.echo.gain_out *ℤ z) (UNIT * UNIT)) (h (0 + k) (rw zero-add l))))
+pub echoed-is : (a : EchoArguments) (x sums : Samples) (line_output : List Samples) → ((k : ℕ) → k < a.channels → slice_index_or sums k (pos 0) ≡ (a.echo.gain_in *ℤ slice_index_or x k (pos 0)) +ℤ sum_of_products (decays a.echo.taps) (channel_of line_output k (pos 0)))
+    → given_samples (tabulate (λ k. rounding (a.echo.gain_out *ℤ slice_index_or sums k (pos 0)) (UNIT * UNIT)) 0 a.channels) ≡ frame_of_lines a x line_output
+echoed-is a x sums line_output h = ap given_samples (tabulate-same _ _ 0 0 a.channels (λ k l. ap (λ z. rounding (a.echo.gain_out *ℤ z) (UNIT * UNIT)) (h (0 + k) (rw zero-add l))))
 
 pub get-left : (xs ys : List Samples) (i : ℕ) → i < length xs → slice_get (xs ++ ys) i ≡ slice_get xs i
 get-left [] ys i h = absurd (omega arith)

@@ -67,9 +67,9 @@ one-echo a w line x early n sounds one is far wide left =
     rw wide (tabulate-same (λ k. rounding ((get_or ws 0 (pos 0) *ℤ get_or x k (pos 0)) +ℤ (get_or ws 1 (pos 0) *ℤ get_or early k (pos 0))) w.denominator) (echoed_sample a.echo history) 0 0 a.channels (λ k l. rw zero-add (each k)))
 
 -- a sample of a frame that leaves a full line
-gone-sample : (line : Frames ℤ) (coming : List Samples) (early : List ℤ) (n i k : ℕ) → length line.items ≡ line.capacity → n ≤ length line.items → i < n → k < line.channels → pieces line.channels n early ≡ take n line.items
+line_output-sample : (line : Frames ℤ) (coming : List Samples) (early : List ℤ) (n i k : ℕ) → length line.items ≡ line.capacity → n ≤ length line.items → i < n → k < line.channels → pieces line.channels n early ≡ take n line.items
     → get_or early (i * line.channels + k) (pos 0) ≡ sample_before (line.items ++ coming) (length line.items + i) line.capacity k
-gone-sample line coming early n i k full bound lt within e =
+line_output-sample line coming early n i k full bound lt within e =
     let there : nat_le line.capacity (length line.items + i) ≡ true = le-leb line.capacity (length line.items + i) (omega arith) in
     let at : length line.items + i - line.capacity ≡ i = omega arith in
     let inside : i < length line.items = omega arith in
@@ -78,7 +78,7 @@ gone-sample line coming early n i k full bound lt within e =
 
 -- so many frames of one echo: those that it needs are those that leave a full line
 module _ (a : EchoArguments) (w : Weights) (line : Frames ℤ) (came early : List ℤ) (n : ℕ) (sounds : SoundsAsEcho a.echo w) (one : length a.echo.taps ≡ 1) (far : line.capacity ≡ largest (map tap_delay a.echo.taps)) (same : line.channels ≡ a.channels)
-    (full : length line.items ≡ line.capacity) (bound : n ≤ length line.items) (gone : pieces line.channels n early ≡ take n line.items) (long : length early ≡ n * a.channels) where
+    (full : length line.items ≡ line.capacity) (bound : n ≤ length line.items) (line_output : pieces line.channels n early ≡ take n line.items) (long : length early ≡ n * a.channels) where
   -- a sample and the one that leaves the line, each times its weight
   abbrev both : ℕ → ℤ
   both k = (get_or w.weights 0 (pos 0) *ℤ get_or came k (pos 0)) +ℤ (get_or w.weights 1 (pos 0) *ℤ get_or early k (pos 0))
@@ -95,7 +95,7 @@ module _ (a : EchoArguments) (w : Weights) (line : Frames ℤ) (came early : Lis
       let history : History = sample_before (line.items ++ pieces a.channels n came) (length line.items + i) in
       let ws : List ℤ = w.weights in
       let now : get_or came at (pos 0) ≡ history 0 k = sym (coming-sample a.channels n i k line.items came lt within) in
-      let left : get_or early at (pos 0) ≡ history line.capacity k = ap (λ m. get_or early (i * m + k) (pos 0)) (sym same) ∙ gone-sample line (pieces a.channels n came) early n i k full bound lt (omega (arith, within, same)) gone in
+      let left : get_or early at (pos 0) ≡ history line.capacity k = ap (λ m. get_or early (i * m + k) (pos 0)) (sym same) ∙ line_output-sample line (pieces a.channels n came) early n i k full bound lt (omega (arith, within, same)) line_output in
       read-table both 0 (n * a.channels) at (pos 0) (within-frames a.channels k i n within lt)
       ∙ ap both (zero-add at)
       ∙ ap (λ z. (get_or ws 0 (pos 0) *ℤ z) +ℤ (get_or ws 1 (pos 0) *ℤ get_or early at (pos 0))) now

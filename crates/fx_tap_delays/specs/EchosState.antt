@@ -31,9 +31,9 @@ abbrev pub after_push : Frames ℤ → Samples → Frames ℤ
 after_push l f = record { items = pushed l f; capacity = l.capacity; channels = l.channels }
 
 -- what the lines output when a frame comes, one after the other
-abbrev pub let_go : ℕ → List (Frames ℤ) → Samples → Samples → List Samples
-let_go channels [] x before = []
-let_go channels (l ∷ ls) x before = or_silence channels (pushed_out l (fed channels x before)) ∷ let_go channels ls x (or_silence channels (pushed_out l (fed channels x before)))
+abbrev pub line_outputs : ℕ → List (Frames ℤ) → Samples → Samples → List Samples
+line_outputs channels [] x before = []
+line_outputs channels (l ∷ ls) x before = or_silence channels (pushed_out l (fed channels x before)) ∷ line_outputs channels ls x (or_silence channels (pushed_out l (fed channels x before)))
 
 -- the lines after a frame came
 abbrev pub lines_after : ℕ → List (Frames ℤ) → Samples → Samples → List (Frames ℤ)
@@ -46,17 +46,17 @@ series_lines_after channels lines [] = lines
 series_lines_after channels lines (x ∷ xs) = series_lines_after channels (lines_after channels lines x (replicate channels (pos 0))) xs
 
 -- what the lines output for the frame at a place of those that come
-abbrev pub gone_at : ℕ → List (Frames ℤ) → List Samples → ℕ → List Samples
-gone_at channels lines xs i = let_go channels (series_lines_after channels lines (take i xs)) (slice_index_or xs i []) (replicate channels (pos 0))
+abbrev pub line_outputs_at : ℕ → List (Frames ℤ) → List Samples → ℕ → List Samples
+line_outputs_at channels lines xs i = line_outputs channels (series_lines_after channels lines (take i xs)) (slice_index_or xs i []) (replicate channels (pos 0))
 
 -- the frame that is given for a frame and what the lines output
 abbrev pub frame_of_lines : EchoArguments → Samples → List Samples → Given
-frame_of_lines a x gone = given_samples (tabulate (λ k. rounding (a.echo.gain_out *ℤ ((a.echo.gain_in *ℤ slice_index_or x k (pos 0)) +ℤ sum_of_products (decays a.echo.taps) (channel_of gone k (pos 0)))) (10 ^ 12 * 10 ^ 12)) 0 a.channels)
+frame_of_lines a x line_output = given_samples (tabulate (λ k. rounding (a.echo.gain_out *ℤ ((a.echo.gain_in *ℤ slice_index_or x k (pos 0)) +ℤ sum_of_products (decays a.echo.taps) (channel_of line_output k (pos 0)))) (10 ^ 12 * 10 ^ 12)) 0 a.channels)
 
 -- what is given for frames that come
 abbrev pub through_lines : EchoArguments → List (Frames ℤ) → List Samples → List Given
 through_lines a lines [] = []
-through_lines a lines (x ∷ xs) = frame_of_lines a x (let_go a.channels lines x (replicate a.channels (pos 0))) ∷ through_lines a (lines_after a.channels lines x (replicate a.channels (pos 0))) xs
+through_lines a lines (x ∷ xs) = frame_of_lines a x (line_outputs a.channels lines x (replicate a.channels (pos 0))) ∷ through_lines a (lines_after a.channels lines x (replicate a.channels (pos 0))) xs
 
 -- what an `Echos` stores
 pub record EchosState : Type 0 where
@@ -143,11 +143,11 @@ HaveCapacity count lines = (j : ℕ) → j < length lines → count ≤ (line_at
 
 -- channel k of what the lines output, each times its decay, added
 abbrev pub decayed_sum : List Tap → List Samples → ℕ → ℤ
-decayed_sum taps gone k = sum_of_products (decays taps) (channel_of gone k (pos 0))
+decayed_sum taps line_output k = sum_of_products (decays taps) (channel_of line_output k (pos 0))
 
 -- the frame that is given for one that goes through the lines
 abbrev pub frame_from_lines : EchoArguments → List (Frames ℤ) → Samples → Given
-frame_from_lines a lines x = frame_of_lines a x (let_go a.channels lines x (silence a.channels))
+frame_from_lines a lines x = frame_of_lines a x (line_outputs a.channels lines x (silence a.channels))
 
 -- the first `count` frames of the output are those given for the first `count` of the input, which go through the lines
 abbrev pub SendsThrough : EchoArguments → List (Frames ℤ) → ℕ → ℕ → List ℤ → List ℤ → Type 0
@@ -161,7 +161,7 @@ clips_through a lines channels count input = total (λ (g : Given). g.clips) (th
 abbrev pub AreLineSums : List ℤ → ℕ → List (Frames ℤ) → ℕ → List ℤ → List ℤ → Type 0
 AreLineSums weights channels lines count frames sums =
     (i k : ℕ) → i < count → k < channels → slice_index_or sums (i * channels + k) (pos 0)
-    ≡ (slice_index_or weights 0 (pos 0) *ℤ slice_index_or frames (i * channels + k) (pos 0)) +ℤ sum_of_products (drop 1 weights) (channel_of (gone_at channels lines (pieces channels count frames) i) k (pos 0))
+    ≡ (slice_index_or weights 0 (pos 0) *ℤ slice_index_or frames (i * channels + k) (pos 0)) +ℤ sum_of_products (drop 1 weights) (channel_of (line_outputs_at channels lines (pieces channels count frames) i) k (pos 0))
 
 -- what `thaw` of `echos` returns
 abbrev pub RestoresEchos : EchoArguments → List Samples → List ℕ → Result EchosState ThawFault → Type 0

@@ -1,7 +1,7 @@
 //! The effect `delay` of sox(1): each channel is delayed by its own number of frames.
 ghost use Rattle.std.specs.Prelude.{◌≡◌, ◌<◌, ◌≤◌, ◌⊎◌, if◌then◌else◌, ◌-◌, ◌*◌, ◌^◌, ◌++◌, ◌∷◌, [], ℕ, List, true, false, length, drop, replicate, slice_index, pos, Err, IfOk};
 ghost use Rattle.fx_fixed.specs.Extents.{largest};
-ghost use Rattle.fx_frame_base.specs.Frame.{IsFrame};
+ghost use Rattle.fx_frame_base.specs.Frame.{IsChannelCount, IsFrame};
 ghost use Rattle.fx_frame_line.specs.Line.{pushed, pushed_all};
 ghost use Rattle.fx_frame_base.specs.Lists.{pieces};
 ghost use Rattle.fx_frame_base.specs.Stage.{Freezes, IsNew};
@@ -110,7 +110,7 @@ impl Tapped<Delays> {
     /// The stage for frames of 1 to 16 channels, with at most one delay for each, in frames; a channel without one is not
     /// delayed. It holds as many frames as the longest delay has, at most `2^28`; AllocError where memory for them is refused.
     pub fn new(alloc: Global, channels: usize, delays: &[u64]) -> Result<Delay, AllocError>
-        requires channels { (1 ≤ channels) × (channels ≤ 16) }
+        requires channels { IsChannelCount channels }
         requires delays { length delays.now ≤ channels }
         requires line { largest delays.now ≤ 2 ^ 28 }
         ensures { IfOk result (IsNew delay_acts (every_delay channels delays.now)) }
@@ -129,7 +129,7 @@ impl Tapped<Delays> {
         frames: &[WideFrame],
         numbers: &[u64; 8],
     ) -> Result<Delay, ThawFault>
-        requires channels { (1 ≤ channels) × (channels ≤ 16) }
+        requires channels { IsChannelCount channels }
         requires delays { length delays.now ≤ channels }
         requires line { largest delays.now ≤ 2 ^ 28 }
         ensures recipe { IfOk result (λ t. delay_acts.recipe t ≡ every_delay channels delays.now) }

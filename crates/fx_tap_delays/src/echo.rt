@@ -15,6 +15,7 @@ ghost use Rattle.fx_tap_delays.specs.Near.{taps-near};
 ghost use Rattle.fx_tap_delays.specs.Sums.{AddsToEach};
 ghost use Rattle.fx_tap_delays.specs.Tapping.{CountsClips, IsLineFor, history_after};
 ghost use Rattle.fx_frame.specs.Tapped.{MakesBlock, clips_in_block};
+ghost use Rattle.fx_frame_base.specs.Frame.{IsChannelCount};
 
 pub mod words;
 
@@ -216,7 +217,7 @@ impl Tapped<PreparedEcho> {
         gain_out: Gain,
         taps: &[(u64, Gain)],
     ) -> Result<Echo, AllocError>
-        requires channels { (1 ≤ channels) × (channels ≤ 16) }
+        requires channels { IsChannelCount channels }
         requires gain_in { unsigned_abs gain_in ≤ UNIT }
         requires taps { (1 ≤ length taps.now) × (length taps.now ≤ 7) }
         requires delays { All (λ e. 1 ≤ e.0) taps.now }
@@ -241,7 +242,7 @@ impl Tapped<PreparedEcho> {
         frames: &[WideFrame],
         numbers: &[u64; 8],
     ) -> Result<Echo, ThawFault>
-        requires channels { (1 ≤ channels) × (channels ≤ 16) }
+        requires channels { IsChannelCount channels }
         requires gain_in { unsigned_abs gain_in ≤ UNIT }
         requires taps { (1 ≤ length taps.now) × (length taps.now ≤ 7) }
         requires delays { All (λ e. 1 ≤ e.0) taps.now }
@@ -266,7 +267,7 @@ pub(crate) const SAMPLES_OF_PIECE: usize = 256;
 
 /// The maximum number of frames of a piece: there is space for their samples, and none of them is an echo of another.
 pub(crate) fn frames_of_piece(channels: usize, taps: &[(u64, Gain)]) -> usize
-    requires channels { (1 ≤ channels) × (channels ≤ 16) }
+    requires channels { IsChannelCount channels }
     requires delays { All (λ e. 1 ≤ e.0) taps.now }
     ensures some { 1 ≤ result }
     ensures free { result * channels ≤ 256 }

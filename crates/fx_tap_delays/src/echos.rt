@@ -2,13 +2,13 @@
 ghost use Rattle.std.specs.Prelude.{◌≡◌, ◌↔◌, true, ◌<◌, ◌≤◌, ◌+◌, ◌*◌, ◌^◌, ◌+ℤ◌, ◌*ℤ◌, ℕ, pos, length, map, unsigned_abs, slice_get, slice_index_or, drop, Err, IfOk, IfSome};
 ghost use Rattle.std.specs.List.{All};
 ghost use Rattle.fx_tap_delays.specs.DelayExtents.{sum_of_delays};
-ghost use Rattle.fx_frame_base.specs.Frame.{IsFrame, silence};
+ghost use Rattle.fx_frame_base.specs.Frame.{IsChannelCount, IsFrame, silence};
 ghost use Rattle.fx_frame_line.specs.Line.{empty, pushed_out};
 ghost use Rattle.fx_frame_base.specs.Lists.{pieces};
 ghost use Rattle.fx_frame_base.specs.Stage.{Freezes, IsNew};
 ghost use Rattle.fx_tap_delays.specs.Echo.{EchoArguments, echo_with};
 ghost use Rattle.fx_tap_delays.specs.Echos.{decays};
-ghost use Rattle.fx_tap_delays.specs.EchosState.{EchosState, IsEchos, after_push, echos_acts, fed, frames_of_lines, let_go, lines_after, or_silence, series_lines_after, AreEchoLines, AreSeriesLines, HaveCapacity, decayed_sum, frame_from_lines, SendsThrough, clips_through, AreLineSums, RestoresEchos};
+ghost use Rattle.fx_tap_delays.specs.EchosState.{EchosState, IsEchos, after_push, echos_acts, fed, frames_of_lines, line_outputs, lines_after, or_silence, series_lines_after, AreEchoLines, AreSeriesLines, HaveCapacity, decayed_sum, frame_from_lines, SendsThrough, clips_through, AreLineSums, RestoresEchos};
 ghost use Rattle.fx_tap_delays.specs.EchosStored.{AreEchosCounts};
 ghost use Rattle.fx_tap_sums.specs.Weights.{AreSmall};
 ghost use Rattle.fx_tap_delays.specs.EchoWeights.{Suits, ForAllSuited};
@@ -61,7 +61,7 @@ impl Model for Echos {
 /// A frame and what the line before output, added.
 #[inline(always)]
 fn fed_frame(channels: usize, frame: Frame, before: WideFrame) -> WideFrame
-    requires channels { (1 ≤ channels) × (channels ≤ 16) }
+    requires channels { IsChannelCount channels }
     requires small { AreSmall (2 ^ 34) before }
     ensures value { result ≡ fed channels frame before }
     ensures count { length result ≡ channels }
@@ -78,30 +78,30 @@ fn fed_frame(channels: usize, frame: Frame, before: WideFrame) -> WideFrame
 /// Pushes a frame and what the line before output, added; returns what this line outputs, or silence.
 #[inline(always)]
 fn feed(line: &mut WideLine, channels: usize, frame: Frame, before: WideFrame) -> WideFrame
-    requires channels { (1 ≤ channels) × (channels ≤ 16) }
+    requires channels { IsChannelCount channels }
     requires line { line.old.channels ≡ channels }
     requires small { AreSmall (2 ^ 34) before }
-    ensures gone { result ≡ or_silence channels (pushed_out line.old (fed channels frame before)) }
+    ensures line_output { result ≡ or_silence channels (pushed_out line.old (fed channels frame before)) }
     ensures line { line.new ≡ after_push line.old (fed channels frame before) }
 {
     let fed = fed_frame(channels, frame, before);
-    let Some(gone) = line.push(fed) else {
+    let Some(line_output) = line.push(fed) else {
         return WideFrame::from_frame(Frame::silence(channels));
     };
-    gone
+    line_output
 }
 
 /// Adds what a line outputs, times a decay, which is at most 1 in magnitude.
 #[inline(always)]
-fn add_gone(sums: &mut Sums, channels: usize, decay: Gain, gone: WideFrame)
+fn add_line_output(sums: &mut Sums, channels: usize, decay: Gain, line_output: WideFrame)
     requires channels { channels ≤ 16 }
     requires decay { unsigned_abs decay ≤ UNIT }
-    requires small { AreSmall (2 ^ 34) gone }
+    requires small { AreSmall (2 ^ 34) line_output }
     requires free { AreSmall (2 ^ 100) sums.old }
-    ensures added { AddsToEach channels sums.old sums.new (λ k. decay *ℤ slice_index_or gone k (pos 0)) }
+    ensures added { AddsToEach channels sums.old sums.new (λ k. decay *ℤ slice_index_or line_output k (pos 0)) }
     ensures left { (k : ℕ) → channels ≤ k → slice_index_or sums.new k (pos 0) ≡ slice_index_or sums.old k (pos 0) }
 {
-    add_places(sums, channels, decay, &gone.places());
+    add_places(sums, channels, decay, &line_output.places());
 }
 
 /// Sends a frame through the lines, and adds what each outputs, times its decay.
@@ -112,21 +112,21 @@ fn pass(
     frame: Frame,
     sums: &mut Sums,
 )
-    requires channels { (1 ≤ channels) × (channels ≤ 16) }
+    requires channels { IsChannelCount channels }
     requires count { (length lines.old ≡ length taps.now) × (length lines.old ≤ 7) }
     requires lines { AreSeriesLines channels lines.old }
     requires decays { All (λ e. unsigned_abs e.1 ≤ UNIT) taps.now }
     requires free { AreSmall (UNIT * 2 ^ 31) sums.old }
     ensures lines { lines.new ≡ lines_after channels lines.old frame (silence channels) }
-    ensures sums { AddsToEach channels sums.old sums.new (decayed_sum taps.now (let_go channels lines.old frame (silence channels))) }
+    ensures sums { AddsToEach channels sums.old sums.new (decayed_sum taps.now (line_outputs channels lines.old frame (silence channels))) }
     ensures small { AreSmall (29 * (UNIT * 2 ^ 31)) sums.new }
 {
     let _count = frame.channels();
     let mut before = WideFrame::from_frame(Frame::silence(channels));
     'lines: for place in 0..lines.len() {
-        let gone = feed(&mut lines[place], channels, frame, before);
-        add_gone(sums, channels, taps[place].1, gone);
-        before = gone;
+        let line_output = feed(&mut lines[place], channels, frame, before);
+        add_line_output(sums, channels, taps[place].1, line_output);
+        before = line_output;
     }
 }
 
@@ -143,7 +143,7 @@ fn pass_piece<const N: usize>(
     count: usize,
     sums: &mut [i64],
 )
-    requires channels { (1 ≤ channels) × (channels ≤ 16) }
+    requires channels { IsChannelCount channels }
     requires bound { length lines.old ≤ 7 }
     requires lines { AreSeriesLines channels lines.old }
     requires late { HaveCapacity count lines.old }
@@ -182,7 +182,7 @@ fn echo_piece<const N: usize>(
     count: usize,
     out: &mut [i32],
 ) -> u64
-    requires channels { (1 ≤ channels) × (channels ≤ 16) }
+    requires channels { IsChannelCount channels }
     requires bound { length lines.old ≤ 7 }
     requires weights { AreSmall (2 ^ 24) small.now.weights }
     requires lines { AreSeriesLines channels lines.old }
@@ -214,7 +214,7 @@ fn echo_batch<const N: usize>(
     samples: &mut [i32],
     count: usize,
 ) -> u64
-    requires channels { (1 ≤ channels) × (channels ≤ 16) }
+    requires channels { IsChannelCount channels }
     requires bound { length lines.old ≤ 7 }
     requires weights { AreSmall (2 ^ 24) small.now.weights }
     requires lines { AreSeriesLines channels lines.old }
@@ -244,7 +244,7 @@ fn echo_many(
     output: &mut [i32],
     count: usize,
 ) -> u64
-    requires channels { (1 ≤ channels) × (channels ≤ 16) }
+    requires channels { IsChannelCount channels }
     requires taps { (length lines.old ≡ length taps.now) × (length lines.old ≤ 7) }
     requires delays { All (λ e. 1 ≤ e.0) taps.now }
     requires lines { (came : ℕ) × AreEchoLines channels came taps.now lines.old }
@@ -285,7 +285,7 @@ fn wide_over(
     gains: (Gain, Gain),
     samples: &mut [i32],
 ) -> u64
-    requires channels { (1 ≤ channels) × (channels ≤ 16) }
+    requires channels { IsChannelCount channels }
     requires frame { length samples.old ≡ channels }
     requires count { (length lines.old ≡ length taps.now) × (length lines.old ≤ 7) }
     requires lines { AreSeriesLines channels lines.old }
@@ -315,7 +315,7 @@ fn echo_over(
     gains: (Gain, Gain),
     samples: &mut [i32],
 ) -> u64
-    requires channels { (1 ≤ channels) × (channels ≤ 16) }
+    requires channels { IsChannelCount channels }
     requires frame { length samples.old ≡ channels }
     requires count { (length lines.old ≡ length taps.now) × (length lines.old ≤ 7) }
     requires lines { AreSeriesLines channels lines.old }
@@ -346,7 +346,7 @@ fn echo_over_by_frames(
     samples: &mut [i32],
     count: usize,
 ) -> u64
-    requires channels { (1 ≤ channels) × (channels ≤ 16) }
+    requires channels { IsChannelCount channels }
     requires taps { (length lines.old ≡ length taps.now) × (length lines.old ≤ 7) }
     requires lines { (came : ℕ) × AreEchoLines channels came taps.now lines.old }
     requires small { IfSome small.now (Suits (echo_with channels gains.0 gains.1 taps.now)) }
@@ -380,7 +380,7 @@ fn echo_frames(
     samples: &mut [i32],
     count: usize,
 ) -> u64
-    requires channels { (1 ≤ channels) × (channels ≤ 16) }
+    requires channels { IsChannelCount channels }
     requires taps { (length lines.old ≡ length taps.now) × (length lines.old ≤ 7) }
     requires lines { (came : ℕ) × AreEchoLines channels came taps.now lines.old }
     requires small { IfSome small.now (Suits (echo_with channels gains.0 gains.1 taps.now)) }
@@ -415,7 +415,7 @@ fn echoed(
     gains: (Gain, Gain),
     frame: Frame,
 ) -> (Frame, u64)
-    requires channels { (1 ≤ channels) × (channels ≤ 16) }
+    requires channels { IsChannelCount channels }
     requires frame { length frame ≡ channels }
     requires count { (length lines.old ≡ length taps.now) × (length lines.old ≤ 7) }
     requires lines { AreSeriesLines channels lines.old }
@@ -442,7 +442,7 @@ fn empty_lines(
     channels: usize,
     taps: &[(u64, Gain)],
 ) -> Result<Vec<WideLine>, AllocError>
-    requires channels { (1 ≤ channels) × (channels ≤ 16) }
+    requires channels { IsChannelCount channels }
     requires delays { All (λ e. e.0 ≤ 2 ^ 28) taps.now }
     ensures { IfOk result (λ v. v.items ≡ map (λ e. empty channels e.0) taps.now) }
 {
@@ -492,7 +492,7 @@ impl Echos {
         gain_out: Gain,
         taps: &[(u64, Gain)],
     ) -> Result<Echos, AllocError>
-        requires channels { (1 ≤ channels) × (channels ≤ 16) }
+        requires channels { IsChannelCount channels }
         requires gain_in { unsigned_abs gain_in ≤ UNIT }
         requires taps { (1 ≤ length taps.now) × (length taps.now ≤ 7) }
         requires delays { All (λ e. 1 ≤ e.0) taps.now }
@@ -552,7 +552,7 @@ impl Echos {
         frames: &[WideFrame],
         numbers: &[u64; 8],
     ) -> Result<Echos, ThawFault>
-        requires channels { (1 ≤ channels) × (channels ≤ 16) }
+        requires channels { IsChannelCount channels }
         requires gain_in { unsigned_abs gain_in ≤ UNIT }
         requires taps { (1 ≤ length taps.now) × (length taps.now ≤ 7) }
         requires delays { All (λ e. 1 ≤ e.0) taps.now }

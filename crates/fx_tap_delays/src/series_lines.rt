@@ -7,6 +7,7 @@ ghost use Rattle.fx_frame.specs.Frozen.{line_of};
 ghost use Rattle.fx_frame_line.specs.Line.{IsLine};
 ghost use Rattle.fx_tap_delays.specs.EchosState.{frames_of_lines};
 ghost use Rattle.fx_tap_delays.specs.EchosStored.{IsSeries, IsSeriesStored, IsSmall, ForAllSeries, ForAllStored, MemoryOrBad};
+ghost use Rattle.fx_frame_base.specs.Frame.{IsChannelCount};
 
 use fx_fixed::Gain;
 use fx_frame::frozen::thawed_wide_line;
@@ -40,7 +41,7 @@ fn thawed_series_line(
     place: usize,
     frames: &[WideFrame],
 ) -> Result<WideLine, ThawFault>
-    requires channels { (1 ≤ channels) × (channels ≤ 16) }
+    requires channels { IsChannelCount channels }
     requires delay { delay ≤ 2 ^ 28 }
     requires place { place ≤ 6 }
     ensures found { IfOk result (λ l. l ≡ line_of channels delay frames.now) }
@@ -63,7 +64,7 @@ fn thawed_series(
     taps: &[(u64, Gain)],
     frames: &[WideFrame],
 ) -> Result<Vec<WideLine>, ThawFault>
-    requires channels { (1 ≤ channels) × (channels ≤ 16) }
+    requires channels { IsChannelCount channels }
     requires bound { length taps.now ≤ 7 }
     requires delays { All (λ e. 1 ≤ e.0) taps.now }
     requires lines { sum_of_delays taps.now ≤ 2 ^ 28 }
@@ -103,7 +104,7 @@ pub(crate) fn thawed_series_and_pending(
     frames: &[WideFrame],
     pending_count: u64,
 ) -> Result<(Vec<WideLine>, Option<Frame>), ThawFault>
-    requires channels { (1 ≤ channels) × (channels ≤ 16) }
+    requires channels { IsChannelCount channels }
     requires bound { length taps.now ≤ 7 }
     requires delays { All (λ e. 1 ≤ e.0) taps.now }
     requires lines { sum_of_delays taps.now ≤ 2 ^ 28 }

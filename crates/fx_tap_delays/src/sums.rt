@@ -4,6 +4,7 @@ ghost use Rattle.fx_fixed.specs.Rounding.{rounding};
 ghost use Rattle.fx_frame_base.specs.Rounded.{clips_rounded, samples_of};
 ghost use Rattle.fx_tap_sums.specs.Weights.{AreSmall};
 ghost use Rattle.fx_tap_delays.specs.Sums.{AddsToEach, frame_of_sums};
+ghost use Rattle.fx_frame_base.specs.Frame.{IsChannelCount};
 
 use fx_fixed::inner::Denominator;
 use fx_fixed::{Gain, UNIT, round_clip};
@@ -45,7 +46,7 @@ pub(crate) fn sums_into(sums: &Sums, gain: Gain, out: &mut [i32]) -> u64
 /// The frame of the sums, each times a gain, rounded once, and how many samples were clipped.
 #[inline(always)]
 pub(crate) fn rounded_sums(sums: &Sums, channels: usize, gain: Gain) -> (Frame, u64)
-    requires channels { (1 ≤ channels) × (channels ≤ 16) }
+    requires channels { IsChannelCount channels }
     requires small { AreSmall (29 * (UNIT * 2 ^ 31)) sums.now }
     ensures frame { result.0 ≡ (frame_of_sums gain sums.now channels).samples }
     ensures clips { result.1 ≡ (frame_of_sums gain sums.now channels).clips }

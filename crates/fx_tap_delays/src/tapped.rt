@@ -6,6 +6,7 @@ ghost use Rattle.fx_frame_base.specs.Lists.{pieces};
 ghost use Rattle.fx_frame_base.specs.Stage.{Freezes, Gave, IsNew, Restores};
 ghost use Rattle.fx_frame.specs.Tapped.{AreTapCounts, IsNear, IsTapState, MakesBlock, TapState, Taps, tap_acts};
 ghost use Rattle.fx_tap_delays.specs.Tapping.{CountsClips, IsLineFor, history_after};
+ghost use Rattle.fx_frame_base.specs.Frame.{IsChannelCount};
 
 use fx_frame::frozen::{stored_in, thawed_line_and_pending};
 use fx_frame::groups::{SAMPLES_OF_GROUP, frames_of_group};
@@ -41,7 +42,7 @@ pub trait Tapping {
     /// The channels of the frames that it takes and makes.
     fn channels(&self) -> usize
         ensures value { result ≡ taps.channels self.now }
-        ensures some { (1 ≤ result) × (result ≤ 16) };
+        ensures some { IsChannelCount result };
 
     /// How many samples of a frame may be clipped.
     fn max_clips(&self) -> u64
@@ -122,7 +123,7 @@ pub(crate) fn sample(line: &Line, frame: &[i32], delay: usize, channel: usize) -
 #[inline(always)]
 fn push_samples(line: &mut Line, samples: &[i32])
     requires channels { length samples.now ≡ line.old.channels }
-    requires some { (1 ≤ length samples.now) × (length samples.now ≤ 16) }
+    requires some { IsChannelCount (length samples.now) }
     ensures items { line.new.items ≡ pushed line.old samples.now }
     ensures capacity { line.new.capacity ≡ line.old.capacity }
     ensures channels { line.new.channels ≡ line.old.channels }

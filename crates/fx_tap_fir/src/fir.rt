@@ -1,6 +1,6 @@
 //! The effect `fir` of sox(1): each sample is a sum of the samples around it, times the coefficients.
 ghost use Rattle.std.specs.Prelude.{◌≡◌, ◌↔◌, true, ◌+◌, ◌*◌, ◌^◌, ◌<◌, ◌≤◌, ◌++◌, length, reverse, drop, pos, All, IfOk, Err, cond, min, nat_eq};
-ghost use Rattle.fx_frame_base.specs.Frame.{IsFrame};
+ghost use Rattle.fx_frame_base.specs.Frame.{IsChannelCount, IsFrame};
 ghost use Rattle.fx_frame_line.specs.Line.{channel_of, pushed, pushed_all};
 ghost use Rattle.fx_frame_base.specs.Lists.{pieces};
 ghost use Rattle.fx_frame_base.specs.Stage.{Freezes, IsNew};
@@ -158,7 +158,7 @@ fn filtered_into(
     out: &mut [i32],
 ) -> u64
     requires channels { channels ≡ line.now.channels }
-    requires some { (1 ≤ channels) × (channels ≤ 16) }
+    requires some { IsChannelCount channels }
     requires latest { length latest.now ≤ 1 }
     requires fits { All (λ f. length f ≡ line.now.channels) latest.now }
     requires place { place ≤ 2 ^ 20 }
@@ -188,7 +188,7 @@ fn filtered_frame(
     place: usize,
 ) -> (Frame, u64)
     requires channels { channels ≡ line.now.channels }
-    requires some { (1 ≤ channels) × (channels ≤ 16) }
+    requires some { IsChannelCount channels }
     requires latest { length latest.now ≤ 1 }
     requires fits { All (λ f. length f ≡ line.now.channels) latest.now }
     requires place { place ≤ 2 ^ 20 }
@@ -399,7 +399,7 @@ fn filter_frames(
 #[inline(always)]
 fn filter_and_push(kernel: &Kernel, line: &mut Line, channels: usize, samples: &mut [i32]) -> u64
     requires channels { channels ≡ line.old.channels }
-    requires some { (1 ≤ channels) × (channels ≤ 16) }
+    requires some { IsChannelCount channels }
     requires free { length line.old.items + 1 ≤ 1024 }
     requires samples { length samples.old ≡ channels }
     ensures frame { samples.new ≡ (filtered_next (fir_with channels (reverse kernel.now)) line.old.items samples.old).samples }
@@ -425,7 +425,7 @@ fn filter_by_frames(
     samples: &mut [i32],
 ) -> u64
     requires channels { channels ≡ line.old.channels }
-    requires some { (1 ≤ channels) × (channels ≤ 16) }
+    requires some { IsChannelCount channels }
     requires capacity { line.old.capacity + 1 ≡ length kernel.now }
     requires taps { length kernel.now ≤ 1024 }
     requires bound { count ≤ 2 ^ 56 }
@@ -489,7 +489,7 @@ fn filter_batch(
     samples: &mut [i32],
 ) -> u64
     requires channels { channels ≡ line.old.channels }
-    requires some { (1 ≤ channels) × (channels ≤ 16) }
+    requires some { IsChannelCount channels }
     requires capacity { line.old.capacity + 1 ≡ length kernel.now }
     requires taps { length kernel.now ≤ 1024 }
     requires bound { count ≤ 2 ^ 56 }
@@ -521,7 +521,7 @@ impl Fir {
     /// The stage for frames of 1 to 16 channels, with 1 to 1024 coefficients. It holds one frame fewer than it has
     /// coefficients; AllocError where memory for them is refused.
     pub fn new(alloc: Global, channels: usize, coefficients: &[Gain]) -> Result<Fir, AllocError>
-        requires channels { (1 ≤ channels) × (channels ≤ 16) }
+        requires channels { IsChannelCount channels }
         requires coefficients { (1 ≤ length coefficients.now) × (length coefficients.now ≤ 1024) }
         ensures { IfOk result (IsNew fir_acts (fir_with channels coefficients.now)) }
     {
@@ -575,7 +575,7 @@ impl Fir {
         frames: &[WideFrame],
         numbers: &[u64; 8],
     ) -> Result<Fir, ThawFault>
-        requires channels { (1 ≤ channels) × (channels ≤ 16) }
+        requires channels { IsChannelCount channels }
         requires coefficients { (1 ≤ length coefficients.now) × (length coefficients.now ≤ 1024) }
         ensures recipe { IfOk result (λ t. fir_acts.recipe t ≡ fir_with channels coefficients.now) }
         ensures frozen { IfOk result (λ t. Freezes fir_acts t frames.now numbers.now) }

@@ -6,6 +6,7 @@ ghost use Rattle.fx_frame_base.specs.Stage.{Freezes, IsNew};
 ghost use Rattle.fx_tap_pointwise.specs.DcShift.{shifted_sample, units_of};
 ghost use Rattle.fx_tap_pointwise.specs.DcShiftState.{dcshift_acts, steps_of};
 ghost use Rattle.fx_tap_pointwise.specs.PerSampleState.{RestoresEach};
+ghost use Rattle.fx_frame_base.specs.Frame.{IsChannelCount};
 
 pub mod words;
 
@@ -227,7 +228,7 @@ pub type DcShift = Mapped<PerSample<Shift>>;
 impl Mapped<PerSample<Shift>> {
     /// The stage for frames of 1 to 16 channels, with a shift from -2 to 2. Allocates no memory.
     pub fn new(channels: usize, shift: Gain) -> DcShift
-        requires channels { (1 ≤ channels) × (channels ≤ 16) }
+        requires channels { IsChannelCount channels }
         requires shift { unsigned_abs shift ≤ 2 * UNIT }
         ensures { IsNew dcshift_acts (record { channels = channels; sampling = shift }) result }
     {
@@ -242,7 +243,7 @@ impl Mapped<PerSample<Shift>> {
         frames: &[WideFrame],
         numbers: &[u64; 8],
     ) -> Result<DcShift, ThawFault>
-        requires channels { (1 ≤ channels) × (channels ≤ 16) }
+        requires channels { IsChannelCount channels }
         requires shift { unsigned_abs shift ≤ 2 * UNIT }
         ensures recipe { IfOk result (λ t. dcshift_acts.recipe t ≡ record { channels = channels; sampling = shift }) }
         ensures frozen { IfOk result (λ t. Freezes dcshift_acts t frames.now numbers.now) }

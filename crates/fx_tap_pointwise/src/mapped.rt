@@ -1,6 +1,6 @@
 //! Memoryless effects: one frame out for each frame in, and no line.
 ghost use Rattle.std.specs.Prelude.{◌≡◌, ◌≤◌, ◌*◌, ◌^◌, ℕ, drop, length, IfOk, IfErr};
-ghost use Rattle.fx_frame_base.specs.Frame.{Samples};
+ghost use Rattle.fx_frame_base.specs.Frame.{IsChannelCount, Samples};
 ghost use Rattle.fx_frame_base.specs.Lists.{pieces};
 ghost use Rattle.fx_frame_base.specs.Stage.{Freezes, Given, IsNew};
 ghost use Rattle.fx_frame.specs.Made.{clips_in, made_of};
@@ -44,7 +44,7 @@ pub trait Mapping {
     /// Writes the samples of the frame that it makes of those of a frame over them, and counts how many were clipped.
     #[inline(never)] // so that the loop over frames stays small enough for its stages to be inlined
     fn map_over(&self, samples: &mut [i32]) -> u64
-        requires frame { (1 ≤ length samples.old) × (length samples.old ≤ 16) }
+        requires frame { IsChannelCount (length samples.old) }
         requires inputs { length samples.old ≡ inputs self.now }
         requires outputs { length samples.old ≡ outputs self.now }
         ensures frame { samples.new ≡ (mapped self.now samples.old).samples }
@@ -64,7 +64,7 @@ pub trait Mapping {
     /// The channels of the frames that it makes.
     fn out_channels(&self) -> usize
         ensures value { result ≡ outputs self.now }
-        ensures frame { (1 ≤ result) × (result ≤ 16) };
+        ensures frame { IsChannelCount result };
 }
 
 /// The channels of the frames that go in, and of those that come out.
@@ -78,7 +78,7 @@ pub struct PairWidths {
 pub trait MapsMany: Mapping {
     /// Maps `count` frames from the front of the input to the front of the output, and counts their clips.
     fn map_many(&self, input: &[i32], output: &mut [i32], count: usize) -> u64
-        requires channels { (1 ≤ Self.inputs self.now) × (Self.inputs self.now ≤ 16) }
+        requires channels { IsChannelCount (Self.inputs self.now) }
         requires bound { count ≤ 2 ^ 56 }
         requires input { count * Self.inputs self.now ≤ length input.now }
         requires output { count * Self.outputs self.now ≤ length output.old }
@@ -95,7 +95,7 @@ pub trait MapsMany: Mapping {
     fn map_group(&self, widths: PairWidths, count: usize, input: &[i32], output: &mut [i32]) -> u64
         requires inputs { widths.inputs ≡ Self.inputs self.now }
         requires outputs { widths.outputs ≡ Self.outputs self.now }
-        requires channels { (1 ≤ widths.inputs) × (widths.inputs ≤ 16) }
+        requires channels { IsChannelCount widths.inputs }
         requires bound { count ≤ 256 }
         requires input { length input.now ≡ count * widths.inputs }
         requires output { length output.old ≡ count * widths.outputs }
@@ -105,7 +105,7 @@ pub trait MapsMany: Mapping {
 
     /// Maps `count` frames in place, and counts their clips, where it keeps the number of channels.
     fn map_many_over(&self, samples: &mut [i32], count: usize) -> u64
-        requires channels { (1 ≤ Self.inputs self.now) × (Self.inputs self.now ≤ 16) }
+        requires channels { IsChannelCount (Self.inputs self.now) }
         requires keeps { Self.outputs self.now ≡ Self.inputs self.now }
         requires bound { count ≤ 2 ^ 56 }
         requires samples { length samples.old ≡ count * Self.inputs self.now }
@@ -130,7 +130,7 @@ pub fn map_by_frames<M: Mapping>(
     output: &mut [i32],
     count: usize,
 ) -> u64
-    requires channels { (1 ≤ M.inputs mapping.now) × (M.inputs mapping.now ≤ 16) }
+    requires channels { IsChannelCount (M.inputs mapping.now) }
     requires bound { count ≤ 2 ^ 56 }
     requires input { count * M.inputs mapping.now ≤ length input.now }
     requires output { count * M.outputs mapping.now ≤ length output.old }

@@ -6,6 +6,7 @@ ghost use Rattle.fx_fixed.specs.Rounding.{clip_count};
 ghost use Rattle.fx_frame.specs.Made.{rounded_given};
 ghost use Rattle.fx_frame_base.specs.Rounded.{clips_rounded, samples_of};
 ghost use Rattle.fx_tap_pointwise.specs.PerSampleState.{RestoresEach};
+ghost use Rattle.fx_frame_base.specs.Frame.{IsChannelCount};
 
 use crate::both::{BothClips, rounded_by_both};
 use crate::mapped::{Mapped, Mapping, MapsMany, PairWidths};
@@ -158,7 +159,7 @@ impl<S: Sampling + Drop> Model for PerSample<S> {
 
     ghost view = { λ s. record { channels = s.channels; sampling = s.sampling } };
 
-    ghost invariant = { λ s. (1 ≤ s.channels) × (s.channels ≤ 16) };
+    ghost invariant = { λ s. IsChannelCount s.channels };
 }
 
 impl<S: Sampling + Drop> PerSample<S> {
@@ -232,7 +233,7 @@ impl<S: SamplesMany + Drop> Mapped<PerSample<S>> {
 
     /// The stage for frames of `channels` channels.
     pub(crate) fn each(channels: usize, sampling: S) -> Mapped<PerSample<S>>
-        requires { (1 ≤ channels) × (channels ≤ 16) }
+        requires { IsChannelCount channels }
         ensures { IsNew (sample_acts S.rounded) (record { channels = channels; sampling = sampling }) result }
     {
         Mapped::of(PerSample { channels, sampling })
@@ -246,7 +247,7 @@ impl<S: SamplesMany + Drop> Mapped<PerSample<S>> {
         frames: &[WideFrame],
         numbers: &[u64; 8],
     ) -> Result<Mapped<PerSample<S>>, ThawFault>
-        requires { (1 ≤ channels) × (channels ≤ 16) }
+        requires { IsChannelCount channels }
         ensures recipe { IfOk result (λ t. (sample_acts S.rounded).recipe t ≡ record { channels = channels; sampling = sampling }) }
         ensures frozen { IfOk result (λ t. Freezes (sample_acts S.rounded) t frames.now numbers.now) }
         ensures thawed { RestoresEach (sample_acts S.rounded) channels sampling frames.now numbers.now result }

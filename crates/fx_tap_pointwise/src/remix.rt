@@ -11,6 +11,7 @@ ghost use Rattle.fx_tap_pointwise.specs.Remix.{RemixArguments, mixed_parts, remi
 ghost use Rattle.fx_tap_pointwise.specs.RemixState.{remix_acts, remix_with, RestoresRemix};
 ghost use Rattle.fx_tap_pointwise.specs.RemixWords.{specs_in};
 ghost use Rattle.fx_tap_sums.specs.ChannelSamples.{WritesRounded, KeepsOtherPlaces};
+ghost use Rattle.fx_frame_base.specs.Frame.{IsChannelCount};
 
 pub mod words;
 
@@ -192,7 +193,7 @@ impl Mix {
     fn add_channels(&self, weights: &[i32], frames: &[i32], channels: usize, sums: &mut [i64])
         requires count { length weights.now ≡ length self.now }
         requires small { sum_by unsigned_abs weights.now ≤ 2 ^ 30 }
-        requires channels { (1 ≤ channels) × (channels ≤ 16) }
+        requires channels { IsChannelCount channels }
         requires frames { length frames.now ≡ length sums.old * channels }
         requires empty { (i : ℕ) → slice_index_or sums.old i (pos 0) ≡ pos 0 }
         ensures sums { AreMixedSums self.now weights.now channels (length sums.old) frames.now sums.new }
@@ -247,7 +248,7 @@ impl Mix {
         out: &mut [i32],
         place: Place,
     ) -> u64
-        requires inputs { (1 ≤ shape.channels) × (shape.channels ≤ 16) }
+        requires inputs { IsChannelCount shape.channels }
         requires frames { length frames.now ≡ shape.count * shape.channels }
         requires channel { place.channel < place.channels }
         requires outputs { place.channels ≤ 16 }
@@ -279,7 +280,7 @@ impl Mix {
         out: &mut [i32],
         place: Place,
     ) -> u64
-        requires inputs { (1 ≤ shape.channels) × (shape.channels ≤ 16) }
+        requires inputs { IsChannelCount shape.channels }
         requires count { shape.count ≤ 256 }
         requires frames { length frames.now ≡ shape.count * shape.channels }
         requires channel { place.channel < place.channels }
@@ -313,7 +314,7 @@ impl Mix {
         out: &mut [i32],
         place: Place,
     ) -> u64
-        requires inputs { (1 ≤ shape.channels) × (shape.channels ≤ 16) }
+        requires inputs { IsChannelCount shape.channels }
         requires count { shape.count ≤ 256 }
         requires frames { length frames.now ≡ shape.count * shape.channels }
         requires channel { place.channel < place.channels }
@@ -348,7 +349,7 @@ fn mix_piece(
     out: &mut [i32],
 ) -> u64
     requires channels { channels ≡ length mixes.now }
-    requires inputs { (1 ≤ shape.channels) × (shape.channels ≤ 16) }
+    requires inputs { IsChannelCount shape.channels }
     requires outs { length mixes.now ≤ 16 }
     requires count { shape.count ≤ 256 }
     requires frames { length frames.now ≡ shape.count * shape.channels }
@@ -367,7 +368,7 @@ fn mix_piece(
 /// Mixes `count` frames from the front of the input to the front of the output, some at a time, and counts how many of
 /// their samples were clipped.
 fn mix_frames(mixes: &[Mix], inputs: usize, input: &[i32], output: &mut [i32], count: usize) -> u64
-    requires inputs { (1 ≤ inputs) × (inputs ≤ 16) }
+    requires inputs { IsChannelCount inputs }
     requires outs { length mixes.now ≤ 16 }
     requires bound { count ≤ 2 ^ 56 }
     requires input { count * inputs ≤ length input.now }
@@ -487,8 +488,8 @@ impl Mapped<Remixing> {
     /// The stage for frames of 1 to 16 channels, which makes 1 to 16 channels, each of at most 64 contributions that name
     /// channels of the input. AllocError where memory for them is refused.
     pub fn new(alloc: Global, channels: usize, outs: &[OutSpec]) -> Result<Remix, AllocError>
-        requires channels { (1 ≤ channels) × (channels ≤ 16) }
-        requires outs { (1 ≤ length outs.now) × (length outs.now ≤ 16) }
+        requires channels { IsChannelCount channels }
+        requires outs { IsChannelCount (length outs.now) }
         requires bound { All (λ out. length out.items ≤ 64) outs.now }
         requires named { All (λ out. All (λ c. c.0 < channels) out.items) outs.now }
         ensures { IfOk result (IsNew remix_acts (remix_with channels (specs_in outs.now))) }
@@ -507,8 +508,8 @@ impl Mapped<Remixing> {
         frames: &[WideFrame],
         numbers: &[u64; 8],
     ) -> Result<Remix, ThawFault>
-        requires channels { (1 ≤ channels) × (channels ≤ 16) }
-        requires outs { (1 ≤ length outs.now) × (length outs.now ≤ 16) }
+        requires channels { IsChannelCount channels }
+        requires outs { IsChannelCount (length outs.now) }
         requires bound { All (λ out. length out.items ≤ 64) outs.now }
         requires named { All (λ out. All (λ c. c.0 < channels) out.items) outs.now }
         ensures recipe { IfOk result (λ t. remix_acts.recipe t ≡ remix_with channels (specs_in outs.now)) }

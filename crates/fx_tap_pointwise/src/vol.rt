@@ -9,6 +9,7 @@ ghost use Rattle.fx_tap_pointwise.specs.VolState.{vol_acts};
 ghost use Rattle.fx_tap_pointwise.specs.PerSampleState.{RestoresEach};
 ghost use Rattle.fx_tap_pointwise.specs.Channels.{rounded_at};
 ghost use Rattle.fx_tap_sums.specs.ChannelSamples.{WritesRounded, KeepsOtherPlaces};
+ghost use Rattle.fx_frame_base.specs.Frame.{IsChannelCount};
 
 pub mod words;
 
@@ -220,7 +221,7 @@ pub type Vol = Mapped<PerSample<Scale>>;
 impl Mapped<PerSample<Scale>> {
     /// The stage for frames of 1 to 16 channels. Allocates no memory.
     pub fn new(channels: usize, gain: Gain) -> Vol
-        requires { (1 ≤ channels) × (channels ≤ 16) }
+        requires { IsChannelCount channels }
         ensures { IsNew vol_acts (record { channels = channels; sampling = gain }) result }
     {
         Mapped::each(channels, Scale::of(gain))
@@ -234,7 +235,7 @@ impl Mapped<PerSample<Scale>> {
         frames: &[WideFrame],
         numbers: &[u64; 8],
     ) -> Result<Vol, ThawFault>
-        requires { (1 ≤ channels) × (channels ≤ 16) }
+        requires { IsChannelCount channels }
         ensures recipe { IfOk result (λ t. vol_acts.recipe t ≡ record { channels = channels; sampling = gain }) }
         ensures frozen { IfOk result (λ t. Freezes vol_acts t frames.now numbers.now) }
         ensures thawed { RestoresEach vol_acts channels gain frames.now numbers.now result }

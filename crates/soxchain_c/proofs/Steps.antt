@@ -33,7 +33,7 @@ use Rattle.soxchain_c.specs.Kept.{boxed, kept}
 use Rattle.soxchain_stream.specs.contracts.stream.Stream as inner
 use Rattle.soxchain_c.specs.contracts.handle.Handle as handle
 use Rattle.core.proofs.atomic.Steps.{Ptr-Good}
-use Rattle.soxchain_c.proofs.Values.{both, both_tt}
+use Rattle.soxchain_c.proofs.Values.{pair_val, both_tt}
 
 abbrev pub R : RattleType
 R = inner.the_row
@@ -50,7 +50,7 @@ H = handle.the_row
 abbrev pub al : Al
 al = record { row = Z; laws = LZ; g = ghosts; d = impl [] tnil dnil; drops = impl [] tnil dnil }
 
-pub handle_good : (p : Ptr) (h : Val) → Good (layout Z) h → T (has_ty ty_ptr (ptr_val p) && (has_ty (layout Z) h && true)) × WT (both (ptr_val p) h)
+pub handle_good : (p : Ptr) (h : Val) → Good (layout Z) h → T (has_ty ty_ptr (ptr_val p) && (has_ty (layout Z) h && true)) × WT (pair_val (ptr_val p) h)
 handle_good p h fits = (both_tt (has_ty ty_ptr (ptr_val p)) (has_ty (layout Z) h) (Ptr-Good p).0 fits.0, ((Ptr-Good p).1, (fits.1, tt)))
 
 module _ {M : Type 1} {𝓤 : Ura M} (𝓛 : Logic 𝓤) (a : Global) where
@@ -59,15 +59,15 @@ module _ {M : Type 1} {𝓤 : Ura M} (𝓛 : Logic 𝓤) (a : Global) where
 
 module _ {M : Type 1} {𝓤 : Ura M} {𝓛 : Logic 𝓤} {K : Type 0} {Γ : List (Item 𝓤)} {G : Goal 𝓤 𝓛.H} where
   pub handle_out : K → (d : H.Denot) (vs : List Val)
-      → ((h : Val) → vs ≡ both (ptr_val d.at) h ∷ [] → Good (layout Z) h → Seq K 𝓛 (‵ (kept R d.alloc d.at d.value) ∷ ‵ (Z.own_val d.alloc (h ∷ [])) ∷ Γ) G)
+      → ((h : Val) → vs ≡ pair_val (ptr_val d.at) h ∷ [] → Good (layout Z) h → Seq K 𝓛 (‵ (kept R d.alloc d.at d.value) ∷ ‵ (Z.own_val d.alloc (h ∷ [])) ∷ Γ) G)
       → Seq K 𝓛 (‵ (H.own_val d vs) ∷ Γ) G
   handle_out t d vs k =
       fsplit t $ fpick t (λ vss. fsplit t $ feq_l t (λ ev. fsplit t $ feq_l t (λ ep. fsplit t $ handle_tells al t d.alloc vss.1.0 (λ h ea fits. move t (1 ∷ []) $ drop t $ move t (1 ∷ []) $ k h
       (subst (λ (ws : List Val). vs ≡ vstruct (of_list (ptr_val d.at ∷ (ws ++ []))) ∷ []) ea (subst (λ (ps : List Val). vs ≡ vstruct (of_list (ps ++ (vss.1.0 ++ []))) ∷ []) ep ev)) fits))))
 
   pub handle_in : K → (p : Ptr) (h : Val) (a : Global) (o : Option R.Denot)
-      → Step K 𝓛 (‵ (H.own_val (record { at = p; alloc = a; value = o }) (both (ptr_val p) h ∷ [])) ∷ Γ) G (‵ (kept R a p o) ∷ ‵ (Z.own_val a (h ∷ [])) ∷ Γ) G
-  handle_in t p h a o = step (λ s. let v : Val = both (ptr_val p) h in
+      → Step K 𝓛 (‵ (H.own_val (record { at = p; alloc = a; value = o }) (pair_val (ptr_val p) h ∷ [])) ∷ Γ) G (‵ (kept R a p o) ∷ ‵ (Z.own_val a (h ∷ [])) ∷ Γ) G
+  handle_in t p h a o = step (λ s. let v : Val = pair_val (ptr_val p) h in
       nothing t $ move t (2 ∷ 0 ∷ []) $ fjoin t $ feq_i t (List Val) (ptr_val p ∷ []) (ptr_val p ∷ []) refl $ fjoin t $ feq_i t (List Val) (v ∷ []) (v ∷ []) refl $ fjoin t $
       fpack t (Valss (RawPtr ∷ Z ∷ [])) (within (shape handle.the_type) (to handle.the_type (record { at = p; alloc = a; value = o })) (v ∷ [])) (ptr_val p ∷ [], (h ∷ [], tt)) $ fjoin t $ s)
 

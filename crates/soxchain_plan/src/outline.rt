@@ -7,7 +7,7 @@ ghost use Rattle.fx_plan_effects.specs.Bounds.{hold_all, is_too_long};
 ghost use Rattle.fx_plan_effects.specs.Effects.{Usable, act};
 ghost use Rattle.fx_plan_effects.specs.Meanings.{InPlace, line_of_act, meaning_at, recipe_at};
 ghost use Rattle.fx_chain_flow.specs.Composed.{composed, composed_wholes};
-ghost use Rattle.fx_frame_base.specs.Frame.{Samples};
+ghost use Rattle.fx_frame_base.specs.Frame.{IsChannelCount, Samples};
 ghost use Rattle.fx_chain_stages.specs.Made.{recipes_for};
 ghost use Rattle.fx_plan.specs.Planning.{planning};
 ghost use Rattle.soxchain_plan.specs.Outlines.{IsOutline, announced_frames, bytes_along, held_bytes, known, rates_along, size_in, stated, stated_bytes, stated_frames, stated_rate, whole_frames};
@@ -77,7 +77,7 @@ pub struct Outline {
 
 /// The whole frames that a head announces.
 fn frames_in(head: &Head) -> Option<u64>
-    requires channels { (1 ≤ head.now.channels) × (head.now.channels ≤ 16) }
+    requires channels { IsChannelCount head.now.channels }
     ensures { result ≡ announced_frames head.now }
 {
     let size = head.channels * head.coding.width();
@@ -97,7 +97,7 @@ fn size_in(head: &Head) -> SizeInHead
 
 /// The content of the head of the input.
 fn input_of(head: &Head) -> SoundOutline
-    requires channels { (1 ≤ head.now.channels) × (head.now.channels ≤ 16) }
+    requires channels { IsChannelCount head.now.channels }
     ensures kind { result.kind ≡ head.now.kind }
     ensures rate { result.rate ≡ head.now.rate }
     ensures channels { result.channels ≡ head.now.channels }

@@ -1,5 +1,6 @@
 //! The worked rows of fx_frame: codings, frames, lines and the writer into memory.
 ghost use Rattle.std.specs.Prelude.{◌≡◌, ◌≤◌, ◌^◌, length};
+ghost use Rattle.fx_frame_base.specs.Frame.{IsChannelCount};
 
 use crate::fixed_tests::{REFUSED, say};
 use fx_frame::{Coding, Frame, Line, Sink, WideFrame, WideLine};
@@ -146,7 +147,7 @@ fn lines(rt: HostRuntime) -> Result<(), &'static str> {
 
 /// A frame whose samples all differ, and differ from those of the frames with other numbers below 16.
 fn numbered(channels: usize, number: i32) -> Frame
-    requires { (1 ≤ channels) × (channels ≤ 16) }
+    requires { IsChannelCount channels }
     ensures { length result ≡ channels }
 {
     let n = number;
@@ -197,7 +198,7 @@ fn has_all(line: &Line, list: &[Frame]) -> bool {
 
 /// What a line does after forty pushes, a plain list does too.
 fn agrees(alloc: Global, channels: usize, capacity: usize) -> Result<(), &'static str>
-    requires channels { (1 ≤ channels) × (channels ≤ 16) }
+    requires channels { IsChannelCount channels }
     requires capacity { capacity ≤ 2 ^ 28 }
 {
     let Ok(mut line) = Line::new(alloc, channels, capacity) else {

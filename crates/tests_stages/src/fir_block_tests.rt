@@ -1,5 +1,6 @@
 //! `fir` of many coefficients, fed blocks of a sound, beside sums that are added up one by one.
 ghost use Rattle.std.specs.Prelude.{◌<◌, ◌≤◌, ◌^◌, ◌+◌, length};
+ghost use Rattle.fx_frame_base.specs.Frame.{IsChannelCount};
 
 use crate::driving::{REFUSED, drain, gain, stored};
 use fx_fixed::Gain;
@@ -138,7 +139,7 @@ fn thaw(
     channels: usize,
     coefficients: &[Gain],
 ) -> Result<(), &'static str>
-    requires channels { (1 ≤ channels) × (channels ≤ 16) }
+    requires channels { IsChannelCount channels }
     requires coefficients { (1 ≤ length coefficients.now) × (length coefficients.now ≤ 1024) }
 {
     let Ok(frames) = stored(alloc, fir) else {
@@ -171,7 +172,7 @@ fn feed_blocks(
     sound: &[i32],
     given: &mut Vec<i32>,
 ) -> Result<(), &'static str>
-    requires channels { (1 ≤ channels) × (channels ≤ 16) }
+    requires channels { IsChannelCount channels }
     requires coefficients { (1 ≤ length coefficients.now) × (length coefficients.now ≤ 1024) }
 {
     let mut rest = sound;
@@ -196,7 +197,7 @@ fn feed(
     sound: &[i32],
     given: &mut Vec<i32>,
 ) -> Result<(), &'static str>
-    requires channels { (1 ≤ channels) × (channels ≤ 16) }
+    requires channels { IsChannelCount channels }
 {
     if coefficients.is_empty() || coefficients.len() > 1024 {
         return Err("no coefficient, or too many");
@@ -228,7 +229,7 @@ fn filters(
     channels: usize,
     frames: usize,
 ) -> Result<(), &'static str>
-    requires channels { (1 ≤ channels) × (channels ≤ 16) }
+    requires channels { IsChannelCount channels }
     requires frames { frames ≤ 2 ^ 20 }
 {
     let Ok(sound) = sound(alloc, frames * channels) else {
@@ -251,7 +252,7 @@ fn filters_by(
     channels: usize,
     frames: usize,
 ) -> Result<(), Fail>
-    requires channels { (1 ≤ channels) × (channels ≤ 16) }
+    requires channels { IsChannelCount channels }
     requires frames { frames ≤ 2 ^ 20 }
 {
     let coefficients = coefficients(alloc, count, is_fine)?;

@@ -5,6 +5,7 @@ ghost use Rattle.std.specs.List.{list_all, list_any, slice_split};
 ghost use Rattle.fx_plan_words.specs.Faults.{ReadsWords, word_texts};
 ghost use Rattle.fx_tap_pointwise.specs.RemixWords;
 ghost use Rattle.fx_tap_pointwise.specs.RemixWords.{contributions, faults_after, is_comma, is_mix, is_there, mixing_of, out_specs, part_faults, remix_faults, remixed, spec_fault, spec_faults, specs_value, summed, weighed_words, ReadsSpecs, spec_parts};
+ghost use Rattle.fx_frame_base.specs.Frame.{IsChannelCount};
 
 mod in_spec;
 
@@ -199,7 +200,7 @@ fn read_after(
     requires maximum { channels ≤ 16 }
     requires before { before ≤ 1 }
     ensures read { ReadsSpecs result (faults_after channels before mixing) (out_specs channels mixing) words.now }
-    ensures count { IfOk result (λ specs. (1 ≤ length specs.items) × (length specs.items ≤ 16)) }
+    ensures count { IfOk result (λ specs. IsChannelCount (length specs.items)) }
     ensures fit { IfOk result (λ specs. list_all (is_mix channels) (specs_value specs) ≡ true) }
 {
     if words.is_empty() {
@@ -225,7 +226,7 @@ pub fn read_remix(
     requires some { 1 ≤ channels }
     requires maximum { channels ≤ 16 }
     ensures read { ReadsSpecs result (remix_faults channels) (remixed channels) words.now }
-    ensures count { IfOk result (λ specs. (1 ≤ length specs.items) × (length specs.items ≤ 16)) }
+    ensures count { IfOk result (λ specs. IsChannelCount (length specs.items)) }
     ensures fit { IfOk result (λ specs. list_all (is_mix channels) (specs_value specs) ≡ true) }
 {
     let mixing = read_option(words);

@@ -11,8 +11,8 @@ returns-clause-frame g c =
     let samples = c.decoded-frame.ensures.samples ∙ ap (λ p. coded_samples p.coding p.channels c.peek.result.now) c.progress.view_is in
     let there : c.progress.inside.size ≤ length c.args.source.now.bytes = omega arith in
     record {
-      value = TakesFrame-held g.R.ReadBeside.reads.rest c.args.progress.now c.args.source.now c.args.source.now c.let_go-2.new.self c.wanted.result c.progress.inside.size _ _
-          (λ bytes known. known) size c.wanted.ensures.value (omega arith) there c.peek.ensures samples c.let_go-2.ensures.bytes c.let_go-2.ensures.reader;
+      value = TakesFrame-held g.R.ReadBeside.reads.rest c.args.progress.now c.args.source.now c.args.source.now c.consume-2.new.self c.wanted.result c.progress.inside.size _ _
+          (λ bytes known. known) size c.wanted.ensures.value (omega arith) there c.peek.ensures samples c.consume-2.ensures.bytes c.consume-2.ensures.reader;
       channels = first_of (search rules, grind (arith, common_steps));
       delivered = first_of (search rules, grind (arith, common_steps));
       counted = first_of (search rules, grind (arith, common_steps));

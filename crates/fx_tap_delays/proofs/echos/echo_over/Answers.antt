@@ -6,7 +6,7 @@ use Rattle.fx_frame_base.specs.Holds.{total}
 use Rattle.fx_frame_base.specs.Lists.{pieces}
 use Rattle.fx_frame_base.specs.Stage.{Given}
 use Rattle.fx_tap_delays.specs.Echo.{EchoArguments, echo_with}
-use Rattle.fx_tap_delays.specs.EchosState.{frame_of_lines, let_go, series_lines_after, through_lines}
+use Rattle.fx_tap_delays.specs.EchosState.{frame_of_lines, line_outputs, series_lines_after, through_lines}
 use Rattle.fx_tap_delays.specs.EchoWeights.{Suits}
 use Rattle.fx_tap_delays.proofs.echos.echo_over.Goals as goal
 
@@ -26,7 +26,7 @@ returns-in-Some c =
     let suits : Suits a c.in-Some.small = rw c.in-Some.is at c.requires.small in
     let many = sym c.requires.count.0 in
     let all : pieces c.args.channels 1 x ≡ x ∷ [] = ap (λ xs. xs ∷ []) (take_all c.args.channels x (omega (arith, c.requires.frame))) in
-    let made : pieces c.args.channels 1 c.echo_batch.new.samples ≡ (frame_of_lines a x (let_go c.args.channels c.args.lines.now x (replicate c.args.channels (pos 0)))).samples ∷ [] =
+    let made : pieces c.args.channels 1 c.echo_batch.new.samples ≡ (frame_of_lines a x (line_outputs c.args.channels c.args.lines.now x (replicate c.args.channels (pos 0)))).samples ∷ [] =
     ensured.frames a suits refl many ∙ ap (λ xs. map (λ (g : Given). g.samples) (through_lines a c.args.lines.now xs)) all in
     let side : length c.echo_batch.new.samples ≡ c.args.channels = c.echo_batch.auto.samples ∙ c.requires.frame in
     record {

@@ -13,7 +13,7 @@ use Rattle.fx_frame_base.proofs.ListPlaces.{zeros-part, any-default}
 use Rattle.fx_tap_delays.proofs.EchoLaws.{echo-first}
 use Rattle.fx_tap_delays.proofs.EchoWeights.{held-weight}
 use Rattle.fx_tap_delays.proofs.EchosSeries.{left-step, same-line}
-use Rattle.fx_tap_delays.proofs.EchosPieces.{column, column-is, fed-pieces, fed_all, let_out, after_all, pushed-is, series_lines-step, sums-step, flat-fits, flat-small, latest-small, let_out-is, series_after, series_after-is, series_gone}
+use Rattle.fx_tap_delays.proofs.EchosPieces.{column, column-is, fed-pieces, fed_all, let_out, after_all, pushed-is, series_lines-step, sums-step, flat-fits, flat-small, latest-small, let_out-is, series_after, series_after-is, series_outputs}
 use Rattle.fx_frame_base.proofs.ChannelPlaces.{within-frames}
 use Rattle.fx_tap_sums.proofs.Cyclic.{nothing}
 use Rattle.fx_tap_delays.proofs.echos.pass_piece.Given as given
@@ -39,8 +39,8 @@ lines-init g c =
       before = λ k. rw (zeros-part (length c.args.frames.now) g.row.N k) (omega arith);
       sums = λ i k lt within.
           let at : i * ch + k < length c.args.sums.now = omega (arith, within-frames ch k i n within lt, c.requires.sums) in
-          echo-first _ _ _ _ (sum_of_products (drop 1 ws) (channel_of (column i (series_gone ch old xs (pieces ch n start))) k (pos 0))) (rw weight at c.add_products.ensures.added (i * ch + k) at) (c.requires.empty (i * ch + k)) refl
-          ∙ ap (λ bs. (slice_index_or ws 0 (pos 0) *ℤ slice_index_or c.args.frames.now (i * ch + k) (pos 0)) +ℤ sum_of_products (drop 1 ws) (channel_of (column i (series_gone ch old xs bs)) k (pos 0))) silent_frame;
+          echo-first _ _ _ _ (sum_of_products (drop 1 ws) (channel_of (column i (series_outputs ch old xs (pieces ch n start))) k (pos 0))) (rw weight at c.add_products.ensures.added (i * ch + k) at) (c.requires.empty (i * ch + k)) refl
+          ∙ ap (λ bs. (slice_index_or ws 0 (pos 0) *ℤ slice_index_or c.args.frames.now (i * ch + k) (pos 0)) +ℤ sum_of_products (drop 1 ws) (channel_of (column i (series_outputs ch old xs bs)) k (pos 0))) silent_frame;
       bound = λ k. omega (arith, rw (c.requires.empty k) at (c.add_products.ensures.bound k));
     }
 
@@ -71,10 +71,10 @@ push_frames-requires-clause-fits g c =
     flat-fits c.add_samples.new.out (λ k l. omega (arith, c.add_samples.ensures.bound k (omega (arith, l, c.add_samples.auto.out)), c.lines.invariant.before k, c.lines-test.true, c.requires.bound))
 
 -- what the line let go, and its samples are small
-gone : (g : given.Over) (c : After-before_into g) → length c.lines.before ≡ c.args.count * c.args.channels →
+line_output : (g : given.Over) (c : After-before_into g) → length c.lines.before ≡ c.args.count * c.args.channels →
     let l = line_at c.args.lines.now c.lines.place in
     (pieces c.args.channels c.args.count c.before_into.new.out ≡ take c.args.count (latest_frames (pos 0) l.capacity l)) × ((k : ℕ) → unsigned_abs (slice_index_or c.before_into.new.out k (pos 0)) ≤ (c.lines.place + 1) * 2 ^ 31)
-gone g c long =
+line_output g c long =
     let n : ℕ = c.args.count in
     let l : Frames ℤ = line_at c.args.lines.now c.lines.place in
     let is = c.requires.lines c.lines.place c.lines-test.true in
@@ -87,7 +87,7 @@ gone g c long =
 pub add_wide_products-requires-clause-samples : goal.add_wide_products-requires-clause-samples
 add_wide_products-requires-clause-samples g c k =
     let at = goal.at.add_wide_products-requires-clause-samples g c in
-    let (copied, small) = gone g at.After-before_into (c.lines.auto.before ∙ (line g at.After-capacity).1) in
+    let (copied, small) = line_output g at.After-before_into (c.lines.auto.before ∙ (line g at.After-capacity).1) in
     omega (arith, small k, c.lines-test.true, c.requires.bound)
 
 pub lines-preserved : goal.lines-preserved
@@ -100,7 +100,7 @@ lines-preserved g c =
     let l : Frames ℤ = line_at old p in
     let is = c.requires.lines p lt in
     let (read, none) = line g (goal.at.lines-preserved g c).After-capacity in
-    let (copied, small) = gone g (goal.at.lines-preserved g c).After-before_into (c.lines.auto.before ∙ none) in
+    let (copied, small) = line_output g (goal.at.lines-preserved g c).After-before_into (c.lines.auto.before ∙ none) in
     let xs : List Samples = pieces ch n c.args.frames.now in
     let bs : List Samples = pieces ch n c.lines.before in
     let ws : List ℤ = c.small.inside.weights in
@@ -148,7 +148,7 @@ returns g c =
           let sums = rw (none, nothing (drop (p + 1) ws)) at c.lines.invariant.sums i k lt within in
           let first : slice_index_or c.lines.sums (i * ch + k) (pos 0) ≡ slice_index_or c.lines.sums (i * ch + k) (pos 0) +ℤ pos 0 = omega (arith, ints) in
           first ∙ sums ∙ ap (λ gs. (slice_index_or ws 0 (pos 0) *ℤ slice_index_or c.args.frames.now (i * ch + k) (pos 0)) +ℤ sum_of_products (drop 1 ws) (channel_of gs k (pos 0)))
-          (ap (λ m. column i (series_gone ch old xs (replicate m (replicate ch (pos 0))))) (sym many) ∙ column-is ch i old xs inside);
+          (ap (λ m. column i (series_outputs ch old xs (replicate m (replicate ch (pos 0))))) (sym many) ∙ column-is ch i old xs inside);
       small = λ k. omega (arith, c.lines.invariant.bound k);
       frames = search rules;
     }

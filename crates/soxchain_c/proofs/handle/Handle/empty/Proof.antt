@@ -19,7 +19,7 @@ use denote.Triple.Walked.{Stays, stay_dropped, walk_of}
 use Rattle.core.proofs.alloc.Calls.{Goes-blank, handle_tells}
 use Rattle.std.specs.declared.option.Option.TheVariants.{None}
 use Rattle.std.proofs.raw_atomic.Walks.{proved_at, leaves}
-use Rattle.soxchain_c.proofs.Values.{both}
+use Rattle.soxchain_c.proofs.Values.{pair_val}
 use Rattle.soxchain_c.proofs.Steps.{Z, al, handle_in, handle_good, H as HRow}
 use Rattle.soxchain_c.specs.contracts.handle.Handle.empty.{ended, clauses}
 use Rattle.soxchain_c.specs.contracts.handle.Handle.empty.Key.{name as #self}
@@ -38,4 +38,4 @@ empty_spec 𝓤 𝓛 𝓜 𝓡 wired =
     sets ! (agg ! (and_then ! (lit ! tt) (and_then ! (get ! refl) (no_more !)))) refl (handle_good null_ptr h fits) $
     nothing ! $ fpack ! (null_ptr ≡ null_ptr) (λ _. ftrue) refl $ handle_in ! null_ptr h a None $ let r : HRow.Denot = record { at = null_ptr; alloc = a; value = None } in
     use0 𝓛 (raw (fact 𝓤 (r.value ≡ None))) (fact_i 𝓤 (r.value ≡ None) (emp 𝓤) refl) $ nothing ! $ nothing ! $ fjoin ! $ nothing ! $
-    returns ! (look_at ! 0 refl) $ free_all ! refl $ keep ! (0 ∷ 1 ∷ 3 ∷ 2 ∷ []) $ by ! (leaves 𝓛 ended hs c z (both (ptr_val null_ptr) h) r _ _))))
+    returns ! (look_at ! 0 refl) $ free_all ! refl $ keep ! (0 ∷ 1 ∷ 3 ∷ 2 ∷ []) $ by ! (leaves 𝓛 ended hs c z (pair_val (ptr_val null_ptr) h) r _ _))))

@@ -27,7 +27,7 @@ use Rattle.std.specs.declared.option.Option.TheVariants.{None, Some}
 use Rattle.std.specs.contracts.impls.GlobalAllocator.TheImpl.{ghosts}
 use Rattle.std_alloc.proofs.ResultValues.{and_tt}
 use Rattle.std.proofs.raw_atomic.Walks.{proved_at, leaves}
-use Rattle.soxchain_c.proofs.Values.{both, Loose, loose_good, loose_in}
+use Rattle.soxchain_c.proofs.Values.{pair_val, Loose, loose_good, loose_in}
 use Rattle.soxchain_c.proofs.Steps.{R, Z, LZ, H as HRow, handle_out, either_kept, handle_good}
 use Rattle.soxchain_c.specs.contracts.handle.Handle.open.{ended, clauses}
 use Rattle.soxchain_c.specs.contracts.handle.Handle.open.Key.{name as #self}
@@ -42,7 +42,7 @@ open_spec 𝓤 𝓛 𝓜 𝓡 wired =
     let κs = z.0.0 in let v = z.0.3.0 in let a = v.alloc in let Post : Val → SProp 𝓤 = (walk_of 𝓛 ended hs c).post z in let Run : List Val → SProp 𝓤 = λ ws. WpFn 𝓤 H 𝓣.C 𝓣.Λ fn ws Post in let Out : RattleType = type_at ended.signature.result κs in
     qed 𝓛 ((‵ ftrue ⊛ ‵ (owns (types_at ended.signature.params κs) z.0.3 z.0.4)) ∷ raw ((c κs z.0.3).requires z.1) ∷ []) ∵ split ! $ drop ! $ fsplit ! $ handle_out ! v z.0.4.0 (λ h ws fits.
     either_kept ! a v.at v.value
-    (λ isnull isnone. let w : Val = both (ptr_val null_ptr) h in let us : z.0.4.0 ≡ w ∷ [] = ws ∙ ap (λ (p : Ptr). both (ptr_val p) h ∷ []) isnull in
+    (λ isnull isnone. let w : Val = pair_val (ptr_val null_ptr) h in let us : z.0.4.0 ≡ w ∷ [] = ws ∙ ap (λ (p : Ptr). pair_val (ptr_val p) h ∷ []) isnull in
     suffices ! (Run (w ∷ [])) (subst (λ (xs : List Val). ent 𝓤 (Run (w ∷ [])) (Run xs)) (sym (λ i. us i ++ [])) (id⊢ 𝓤 (Run (w ∷ [])))) $
     enter ! 𝓣.C 𝓣.Λ fn (w ∷ []) Post $ alloc_all ! (λ l. pass_all ! refl (handle_good null_ptr h fits, tt) $ let Ev = env fn.locals l in
     sets ! (of_opd ! (get_in ! (fld ! refl (stop !)) (sub ! 0 refl (whole !)))) refl (Ptr-Good null_ptr) $ sets ! (of_opd ! (get_in ! (fld ! refl (stop !)) (sub ! 1 refl (whole !)))) refl fits $
@@ -50,7 +50,7 @@ open_spec 𝓤 𝓛 𝓜 𝓡 wired =
     (λ _. sets_last ! (agg ! (and_then ! (lit ! tt) (no_more !))) refl (tt, (record { fits = lit< tt }, tt)) $ exec ! 𝓣.C 𝓣.Λ Ev (after 4 fn.body) (at_ret Ev Post) $ sets ! (of_opd ! (get ! refl)) refl (tt, (record { fits = lit< tt }, tt)) $
     use0 𝓛 (‵ (Out.own_val None (live 0 vnil ∷ []))) (none_of 𝓛 Lr) $ use0 𝓛 (raw (fact 𝓤 (v.value ≡ None))) (fact_i 𝓤 (v.value ≡ None) (emp 𝓤) isnone) $ nothing ! $ nothing ! $ fjoin ! $ nothing ! $
     returns ! (look_at ! 0 refl) $ free_all ! refl $ keep ! (0 ∷ 1 ∷ 3 ∷ 2 ∷ []) $ by ! (leaves 𝓛 ended hs c z (live 0 vnil) None _ _)) (λ wrong. absurd wrong)))
-    (λ b n x e eo t. let w : Val = both (vptr b n) h in let us : z.0.4.0 ≡ w ∷ [] = ws ∙ ap (λ (p : Ptr). both (ptr_val p) h ∷ []) e in
+    (λ b n x e eo t. let w : Val = pair_val (vptr b n) h in let us : z.0.4.0 ≡ w ∷ [] = ws ∙ ap (λ (p : Ptr). pair_val (ptr_val p) h ∷ []) e in
     let typed = loose_good R Z LZ ghosts b n h fits in let v₁ : Val = live 1 (vcons w vnil) in let d : Lr.Denot = record { at = block_ptr b n; alloc = a; value = x } in
     let good : Good (layout Out) v₁ = (and_tt _ typed.0, (record { fits = lit< tt }, (typed.1, tt))) in
     suffices ! (Run (w ∷ [])) (subst (λ (xs : List Val). ent 𝓤 (Run (w ∷ [])) (Run xs)) (sym (λ i. us i ++ [])) (id⊢ 𝓤 (Run (w ∷ [])))) $

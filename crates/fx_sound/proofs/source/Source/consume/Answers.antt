@@ -1,6 +1,6 @@
 use Rattle.std.proofs.Common.{◌≡◌, ◌-◌, length, ap, sym, ◌∙◌, arith}
 use Rattle.fx_sound.proofs.Held.{drop-held, length-held}
-use Rattle.fx_sound.proofs.source.Source.let_go.Goals as goal
+use Rattle.fx_sound.proofs.source.Source.consume.Goals as goal
 
 pub returns-clause-bytes : goal.returns-clause-bytes
 returns-clause-bytes g c =
