@@ -1,4 +1,4 @@
--- The eight numbers of a snapshot of a stage by name, and what has to hold of those that are about its core (this project's profile).
+-- The numbers of a stage in a snapshot, by name: those of a core, and all eight of a stage with a tail (this project's profile).
 use Rattle.std.specs.Prelude.{ℕ, ◌*◌, ◌≤◌, ◌≡◌, List, Option, slice_index_or, nat_eq}
 use Rattle.fx_frame_base.specs.Frame.{Samples}
 use Rattle.fx_frame_base.specs.Stage.{max_taken}
@@ -7,7 +7,7 @@ use Rattle.fx_frame_base.specs.declared.stage_core.StageCore.{StageCore}
 use Rattle.fx_frame.specs.declared.numbers.CoreNumbers.{CoreNumbers}
 use Rattle.fx_frame.specs.declared.numbers.TailNumbers.{TailNumbers}
 
--- the numbers of a core that gives at most `max_clips` clips a frame
+-- the numbers of a core whose frames have at most `max_clips` clipped samples each
 pub record AreCoreNumbers (max_clips : ℕ) (n : CoreNumbers) : Type 0 where
   pub flag : n.ended ≤ 1
   pub bound : n.taken ≤ max_taken

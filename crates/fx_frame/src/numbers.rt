@@ -1,4 +1,4 @@
-//! The eight numbers of a snapshot of a stage by name, and what has to hold of those that are about its core.
+//! The numbers of a stage in a snapshot, by name: those of a core, and all eight of a stage with a tail.
 ghost use Rattle.std.specs.Prelude.{◌≡◌, ◌↔◌, true};
 ghost use Rattle.fx_frame.specs.Numbers.{AreCoreNumbers, by_name, core_of};
 
@@ -13,14 +13,15 @@ pub struct CoreNumbers {
     /// 1 after the end, 0 before it.
     pub ended: u64,
     pub clips: u64,
-    /// The pending frames, 0 or 1.
+    /// 1 if a frame is pending, else 0.
     pub pending_count: u64,
-    /// The clips in them.
+    /// The clipped samples of the pending frame.
     pub pending_clips: u64,
 }
 
 impl CoreNumbers {
-    /// Whether a core that gives at most `max_clips` clips a frame can have these numbers.
+    /// Whether these numbers can belong to a core whose frames have at most `max_clips` clipped samples each. The caller compares
+    /// `pending_count` with the stored frames: that it is at most 1 is not tested here.
     pub fn are_valid(&self, max_clips: u64) -> bool
         ensures { result ≡ true ↔ AreCoreNumbers max_clips self.now }
     {
@@ -32,7 +33,7 @@ impl CoreNumbers {
             && self.clips <= self.given.saturating_mul(max_clips)
     }
 
-    /// The core that has these numbers and this pending frame.
+    /// The core that has these numbers and this pending frame. `pending_count` is not read: the caller compares it with `pending`.
     pub fn restored(&self, pending: Option<Frame>) -> StageCore
         ensures { result ≡ core_of self.now pending }
     {
@@ -50,14 +51,14 @@ impl CoreNumbers {
 #[derive(Clone, Copy)]
 pub struct TailNumbers {
     pub core: CoreNumbers,
-    /// The frames that it stores.
+    /// How many frames it stores: those of its lines, and the pending one.
     pub stored: u64,
-    /// The frames to be given after the pending one.
+    /// How many frames it still gives after the end, without the pending one.
     pub tail: u64,
 }
 
 impl TailNumbers {
-    /// The eight numbers of a snapshot by name.
+    /// Names the eight numbers of a stage with a tail.
     pub fn of(numbers: &[u64; 8]) -> TailNumbers
         ensures { result ≡ by_name numbers.now }
     {

@@ -1,4 +1,4 @@
--- What a stage holds beside its lines and its arguments (this project's profile).
+-- The state that most stages have in common (this project's profile).
 use Rattle.std.specs.Prelude.{ℕ, ◌+◌, ◌*◌, ◌≤◌, ◌≡◌, true, false, List, Option, Some, None, length, map, option_to_list}
 use Rattle.fx_frame_base.specs.declared.stage.Counters.{Counters}
 use Rattle.fx_frame_base.specs.declared.stage_core.StageCore.{StageCore}

@@ -1,11 +1,12 @@
-//! What a stage holds beside its lines and its arguments: the pending frame, the clips in it, and the counters.
+//! The state that most stages have in common: the pending frame, its clips, and the counters.
 ghost use Rattle.std.specs.Prelude.{◌≡◌, ◌+◌, ◌<◌, ◌^◌, None, true, is_some};
 ghost use Rattle.fx_frame_base.specs.StageCore.{after_offering, after_passing, after_pending, core_counters, new_core, restored_core};
 
 use crate::frame::Frame;
 use crate::stage::Counters;
 
-/// The pending frame of a stage and its counters. Each call changes what its contract names, and nothing else.
+/// The pending frame of a stage, its clips, and the counters of the stage. Each call changes what its contract names, and nothing
+/// else.
 #[derive(Drop)]
 pub struct StageCore {
     pending: Option<Frame>,
@@ -45,7 +46,7 @@ impl StageCore {
         }
     }
 
-    /// The frame to be given next, if it was made.
+    /// The pending frame, if there is one.
     #[inline(always)]
     pub fn pending(&self) -> Option<Frame>
         ensures { result ≡ self.now.pending }
@@ -53,7 +54,7 @@ impl StageCore {
         self.pending
     }
 
-    /// Whether there is such a frame.
+    /// Whether a frame is pending.
     #[inline(always)]
     pub fn is_pending(&self) -> bool
         ensures { result ≡ is_some self.now.pending }
@@ -61,7 +62,7 @@ impl StageCore {
         self.pending.is_some()
     }
 
-    /// How many samples of it were clipped.
+    /// How many samples of the pending frame were clipped.
     #[inline(always)]
     pub fn pending_clips(&self) -> u64
         ensures { result ≡ self.now.pending_clips }
@@ -158,7 +159,7 @@ impl StageCore {
         self.ended = true;
     }
 
-    /// Counts frames that the stage took in one call, where it gives another number of them.
+    /// Counts frames that the stage took in one call. `pass` is for a stage that gives one for each.
     #[inline(always)]
     pub fn take_many(&mut self, count: u64)
         requires { self.old.taken + count < 2 ^ 62 }
@@ -167,7 +168,7 @@ impl StageCore {
         self.taken += count;
     }
 
-    /// Counts frames that the stage gave in one call, and that were never pending. None of their samples was clipped.
+    /// Counts frames that the stage gave in one call, that were never pending and have no clips.
     #[inline(always)]
     pub fn give_many(&mut self, count: u64)
         requires { self.old.given + count < 2 ^ 62 }

@@ -13,20 +13,20 @@ use Rattle.fx_frame_base.specs.Given.{given_samples}
 use Rattle.fx_frame.specs.History.{History, sample_before}
 use Rattle.fx_frame.specs.Kinds.{tap_kind}
 
--- what an `echo` or `echos` does; gains are in trillionths
+-- what an `echo` or `echos` does; gains and decays are in trillionths
 pub record EchoValue : Type 0 where
-  -- of each frame
+  -- the gain of the input
   pub gain_in : ℤ
-  -- of the frame and its echoes, added
+  -- the gain of the sum of the input and its echoes
   pub gain_out : ℤ
-  -- of each echo its delay and its decay
+  -- one tap for each echo: its delay in frames and its decay
   pub taps : List Tap
 
--- what an `echo` or `echos` is made with
+-- the arguments of the stage of `echo` or `echos`
 pub record EchoArguments : Type 0 where
-  -- of each frame
+  -- how many channels each frame has
   pub channels : ℕ
-  -- what it does
+  -- its gains and its taps
   pub echo : EchoValue
 
 -- the arguments of an `echo`, or of an `echos`, with these channels, gains and taps
