@@ -5,8 +5,8 @@ ghost use Rattle.std.specs.List.{All};
 ghost use Rattle.fx_fixed.specs.Rounding.{clip_count};
 ghost use Rattle.fx_frame.specs.Made.{rounded_given};
 ghost use Rattle.fx_frame_base.specs.Rounded.{clips_rounded, samples_of};
-ghost use Rattle.fx_tap_pointwise.specs.PerSampleState.{RestoresEach};
 ghost use Rattle.fx_frame_base.specs.Frame.{IsChannelCount};
+ghost use Rattle.fx_tap_pointwise.specs.PerSampleState.{RestoresEach};
 
 use crate::both::{BothClips, rounded_by_both};
 use crate::mapped::{Mapped, Mapping, MapsMany, PairWidths};
@@ -159,7 +159,7 @@ impl<S: Sampling + Drop> Model for PerSample<S> {
 
     ghost view = { λ s. record { channels = s.channels; sampling = s.sampling } };
 
-    ghost invariant = { λ s. IsChannelCount s.channels };
+    ghost invariant = { λ s. (1 ≤ s.channels) × (s.channels ≤ 16) };
 }
 
 impl<S: Sampling + Drop> PerSample<S> {
