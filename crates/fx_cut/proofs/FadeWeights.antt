@@ -8,13 +8,13 @@ use Rattle.fx_frame_base.specs.Frame.{Samples}
 use Rattle.fx_frame_base.specs.Stage.{Given}
 use Rattle.fx_frame_base.specs.Given.{plain}
 use Rattle.fx_frame_line.specs.Line.{IsSamples}
-use Rattle.fx_cut.specs.declared.fade.FadeShape.{FadeShape}
+use Rattle.fx_cut.specs.declared.fade.words.Fading.{Fading}
 use Rattle.fx_cut.specs.Fade.{faded_frame, weight, weighted, weights}
 use Rattle.fx_cut.specs.FadeState.{stop_determined}
 use Rattle.fx_cut.proofs.Weighing.{given-plain, whole-frame}
 
 -- what is given of frames before the stop that fall out of the line one after another, the first of which is frame n
-abbrev pub faded_along : FadeShape → ℕ → List Samples → List Given
+abbrev pub faded_along : Fading → ℕ → List Samples → List Given
 faded_along f n frames = map (λ e. faded_frame f (stop_determined f e.0) e.0 e.1) (enumerate_from n frames)
 
 -- a weight is at most 1, and its denominator is not 0
@@ -31,12 +31,12 @@ product-maximum a b c d h g =
     let over = g.1 in
     (omega arith, omega arith)
 
-pub weights-some : (f : FadeShape) (stop : Option ℕ) (n : ℕ) → 0 < (weights f stop n).1
+pub weights-some : (f : Fading) (stop : Option ℕ) (n : ℕ) → 0 < (weights f stop n).1
 weights-some f None n = (weight-maximum f.fade_in n).1
 weights-some f (Some stop) n = (product-maximum _ _ _ _ (weight-maximum f.fade_in n) (weight-maximum f.fade_out (stop - n))).1
 
 -- frames of the weight 1 are given unchanged
-pub all-flat : (f : FadeShape) (channels n : ℕ) (os : List Samples) → ((i : ℕ) → i < length os → (weights f (stop_determined f (n + i)) (n + i)).0 ≡ (weights f (stop_determined f (n + i)) (n + i)).1) → All (IsSamples w32 channels) os → map plain os ≡ faded_along f n os
+pub all-flat : (f : Fading) (channels n : ℕ) (os : List Samples) → ((i : ℕ) → i < length os → (weights f (stop_determined f (n + i)) (n + i)).0 ≡ (weights f (stop_determined f (n + i)) (n + i)).1) → All (IsSamples w32 channels) os → map plain os ≡ faded_along f n os
 all-flat f channels n [] whole samples = refl
 all-flat f channels n (o ∷ os) whole samples =
     let first = whole 0 (omega arith) in
@@ -47,7 +47,7 @@ all-flat f channels n (o ∷ os) whole samples =
     cc (here, rest)
 
 -- one more frame falls out
-pub faded_along-more : (f : FadeShape) (n : ℕ) (xs : List Samples) (x : Samples) → faded_along f n (xs ++ x ∷ []) ≡ faded_along f n xs ++ faded_frame f (stop_determined f (n + length xs)) (n + length xs) x ∷ []
+pub faded_along-more : (f : Fading) (n : ℕ) (xs : List Samples) (x : Samples) → faded_along f n (xs ++ x ∷ []) ≡ faded_along f n xs ++ faded_frame f (stop_determined f (n + length xs)) (n + length xs) x ∷ []
 faded_along-more f n [] x = let e : n + 0 ≡ n = omega arith in rw e refl
 faded_along-more f n (y ∷ ys) x =
     let e : n + 1 + length ys ≡ n + length (y ∷ ys) = omega arith in

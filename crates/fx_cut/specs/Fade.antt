@@ -10,7 +10,7 @@ use Rattle.fx_fixed.specs.declared.positions.At.TheVariants.{Start, End}
 use Rattle.fx_frame_base.specs.Frame.{Samples}
 use Rattle.fx_frame_base.specs.Stage.{Given, StageKind}
 use Rattle.fx_frame_base.specs.Given.{given_samples}
-use Rattle.fx_cut.specs.declared.fade.FadeShape.{FadeShape}
+use Rattle.fx_cut.specs.declared.fade.words.Fading.{Fading}
 
 -- n parts of a length, at most 1, as a numerator and a denominator; a fade of no length has the weight 1
 abbrev pub weight : ℕ → ℕ → ℕ × ℕ
@@ -22,7 +22,7 @@ abbrev pub weight_product : ℕ × ℕ → ℕ × ℕ → ℕ × ℕ
 weight_product v w = (v.0 * w.0, v.1 * w.1)
 
 -- the weight of frame n, where the sound stops at a place or does not stop
-abbrev pub weights : FadeShape → Option ℕ → ℕ → ℕ × ℕ
+abbrev pub weights : Fading → Option ℕ → ℕ → ℕ × ℕ
 weights f None n = weight f.fade_in n
 weights f (Some stop) n = weight_product (weight f.fade_in n) (weight f.fade_out (stop - n))
 
@@ -31,7 +31,7 @@ abbrev pub weighted : ℕ × ℕ → ℤ → ℤ × Bool
 weighted w sample = rounding (sample *ℤ pos (w.0)) (w.1)
 
 -- frame n with its weight
-abbrev pub faded_frame : FadeShape → Option ℕ → ℕ → Samples → Given
+abbrev pub faded_frame : Fading → Option ℕ → ℕ → Samples → Given
 faded_frame f stop n frame = given_samples (map (weighted (weights f stop n)) frame)
 
 -- where the stop lies in a sound of `len` frames
@@ -45,11 +45,11 @@ until None len = len
 until (Some stop) len = min len stop
 
 -- the frames up to the stop, or all of them, each with its weight
-abbrev pub faded : FadeShape → List Samples → List Given
+abbrev pub faded : Fading → List Samples → List Given
 faded f x = map (λ n. faded_frame f (stop_in (length x) f.stop) n (slice_index_or x n [])) (range_with_len 0 (until (stop_in (length x) f.stop) (length x)))
 
 -- the frames that a fade needs to look ahead
-abbrev pub fade_line : FadeShape → ℕ
+abbrev pub fade_line : Fading → ℕ
 fade_line f = stop_line f.stop f.fade_out
 
 -- how many frames are given after `s` taken frames, with no end
@@ -58,7 +58,7 @@ due_by (Some (End b)) fade_out s = s - b - fade_out
 due_by (Some (Start p)) fade_out s = min s p
 due_by None fade_out s = s
 
-abbrev pub fade_due : FadeShape → ℕ → ℕ
+abbrev pub fade_due : Fading → ℕ → ℕ
 fade_due f s = due_by f.stop f.fade_out s
 
 -- a stop from the start is enough
@@ -69,14 +69,14 @@ fade_enough _ = None
 -- what a `Fade` is made with
 pub record FadeArguments : Type 0 where
   pub channels : ℕ
-  pub shape : FadeShape
+  pub shape : Fading
 
 -- those with so many channels, a rise, a stop and a fall
 abbrev pub fade_with : ℕ → ℕ → Option At → ℕ → FadeArguments
 fade_with channels fade_in stop fade_out = record { channels = channels; shape = record { fade_in = fade_in; stop = stop; fade_out = fade_out } }
 
 -- fades of at most 2^40 frames
-pub record IsShape (f : FadeShape) : Type 0 where
+pub record IsShape (f : Fading) : Type 0 where
   pub short_in : f.fade_in ≤ 2 ^ 40
   pub short_out : f.fade_out ≤ 2 ^ 40
 

@@ -8,7 +8,7 @@ use Rattle.fx_cut.specs.FadeExtents.{stop_line}
 use Rattle.fx_fixed.specs.declared.positions.At.{At}
 use Rattle.fx_fixed.specs.declared.positions.At.TheVariants.{Start, End}
 use Rattle.fx_frame_base.specs.Frame.{Samples}
-use Rattle.fx_cut.specs.declared.fade.FadeShape.{FadeShape}
+use Rattle.fx_cut.specs.declared.fade.words.Fading.{Fading}
 use Rattle.fx_cut.specs.Fade.{FadeArguments, due_by, fade_enough, fade_meaning, faded_frame, stop_in, until, weight}
 use Rattle.fx_cut.specs.FadeState.{fade_selects, is_before}
 use Rattle.fx_cut.specs.Selected.{AreDetermined, selected_from}
@@ -78,7 +78,7 @@ gives-determined (Some (End b)) out frames n h =
     let other : nat_lt n (n + (b + out) + 1 - b) ≡ true = lt-ltb n (n + (b + out) + 1 - b) (omega arith) in
     one ∙ sym other
 
-made-determined : (f : FadeShape) (stop : Option At) (frames n : ℕ) (frame : Samples) → n + stop_line stop f.fade_out < frames
+made-determined : (f : Fading) (stop : Option At) (frames n : ℕ) (frame : Samples) → n + stop_line stop f.fade_out < frames
     → faded_frame f (stop_in frames stop) n frame ≡ faded_frame f (stop_in (n + stop_line stop f.fade_out + 1) stop) n frame
 made-determined f None frames n frame h = refl
 made-determined f (Some (Start p)) frames n frame h = refl

@@ -2,7 +2,7 @@
 use Rattle.std.specs.Prelude.{ℕ, ◌+◌, nat_lt, Bool, true, if◌then◌else◌, List, [], ◌∷◌, Option, Some, None}
 use Rattle.fx_frame_base.specs.Frame.{Samples}
 use Rattle.fx_frame_base.specs.Stage.{Acts, Given}
-use Rattle.fx_cut.specs.declared.fade.FadeShape.{FadeShape}
+use Rattle.fx_cut.specs.declared.fade.words.Fading.{Fading}
 use Rattle.fx_cut.specs.Fade.{faded_frame, stop_in, fade_line, fade_due, fade_enough, FadeArguments, fade_meaning, weights}
 use Rattle.fx_cut.specs.Selected.{Selects, SelectedState, selected_acts}
 
@@ -12,15 +12,15 @@ is_before None n = true
 is_before (Some stop) n = nat_lt n stop
 
 -- what is given of frame n
-abbrev pub faded_here : FadeShape → Option ℕ → ℕ → Samples → List Given
+abbrev pub faded_here : Fading → Option ℕ → ℕ → Samples → List Given
 faded_here f stop n frame = if is_before stop n then faded_frame f stop n frame ∷ [] else []
 
 -- the stop in the shortest sound in which frame n falls out of the line before the end
-abbrev pub stop_determined : FadeShape → ℕ → Option ℕ
+abbrev pub stop_determined : Fading → ℕ → Option ℕ
 stop_determined f n = stop_in (n + fade_line f + 1) f.stop
 
 -- the weights of the frame at a place, as far as they are determined when it falls out of the line
-abbrev pub weights_determined : FadeShape → ℕ → ℕ × ℕ
+abbrev pub weights_determined : Fading → ℕ → ℕ × ℕ
 weights_determined f place = weights f (stop_determined f place) place
 
 -- which frames `fade` gives: those before the stop, each with its weight

@@ -15,23 +15,13 @@ ghost use Rattle.fx_frame_base.specs.Frame.{IsChannelCount};
 pub mod words;
 
 use crate::extents::{effective_stop, stop_line};
+use crate::fade::words::Fading;
 use crate::selected::{FrameRun, Selected, Selection};
 use crate::slopes::{Slope, weigh_by};
 use fx_fixed::At;
 use fx_frame::{Frame, ThawFault, WideFrame};
 use std::alloc::{AllocError, Global};
 use std::marker::Model;
-
-/// What a fade does to a sound, whatever its channels.
-#[derive(Drop)]
-pub struct FadeShape {
-    /// The frames of the rise; 0 for no rise.
-    pub fade_in: u64,
-    /// Where the sound stops, if it does before its end or fades out at its end.
-    pub stop: Option<At>,
-    /// The frames of the fall before the stop; 0 for no fall.
-    pub fade_out: u64,
-}
 
 /// Whether the frame at this place lies before the stop.
 #[inline(always)]
@@ -48,7 +38,7 @@ fn is_ahead(stop: Option<u64>, place: u64) -> bool
 #[derive(Drop)]
 pub struct PreparedFade {
     channels: usize,
-    shape: FadeShape,
+    shape: Fading,
     rise: Slope,
     fall: Slope,
 }
@@ -76,7 +66,7 @@ impl PreparedFade {
         let stop = effective_stop(stop);
         PreparedFade {
             channels,
-            shape: FadeShape {
+            shape: Fading {
                 fade_in,
                 stop,
                 fade_out,

@@ -9,11 +9,14 @@ use Rattle.fx_frame.specs.declared.numbers.TailNumbers.{TailNumbers}
 
 -- the numbers of a core whose frames have at most `max_clips` clipped samples each
 pub record AreCoreNumbers (max_clips : ℕ) (n : CoreNumbers) : Type 0 where
+  -- the flag of the end is 0 or 1
   pub flag : n.ended ≤ 1
+  -- no more frames than a stage may take
   pub bound : n.taken ≤ max_taken
   -- no clips without a pending frame, and no pending frame after the end
   pub idle : n.pending_count ≡ 0 → n.pending_clips ≡ 0
   pub over : 1 ≤ n.ended → n.pending_count ≡ 0
+  -- no more clips than the frames given, and the pending one, can have
   pub clips_max : n.clips ≤ n.given * max_clips
   pub pending_max : n.pending_clips ≤ max_clips
 

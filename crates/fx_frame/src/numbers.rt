@@ -8,10 +8,13 @@ use fx_frame_base::{Counters, Frame, StageCore};
 /// What a snapshot says of the core of a stage.
 #[derive(Clone, Copy)]
 pub struct CoreNumbers {
+    /// The frames taken.
     pub taken: u64,
+    /// The frames given.
     pub given: u64,
     /// 1 after the end, 0 before it.
     pub ended: u64,
+    /// The clipped samples of the frames given.
     pub clips: u64,
     /// 1 if a frame is pending, else 0.
     pub pending_count: u64,

@@ -51,3 +51,10 @@ pub record IsCore (channels max_clips : ℕ) (c : StageCore) : Type 0 where
   pub idle : length (pending_frames c) ≡ 0 → c.pending_clips ≡ 0
   pub over : c.ended ≡ true → length (pending_frames c) ≡ 0
   pub fits : IsPending channels c.pending
+
+-- the invariant of the core of a stage that clips no sample, and whose pending frame may be one that it took earlier
+pub record IsUnclippedCore (channels : ℕ) (c : StageCore) : Type 0 where
+  pub bound : c.taken ≤ max_taken
+  pub no_clips : c.clips ≡ 0
+  pub no_pending_clips : c.pending_clips ≡ 0
+  pub fits : IsPending channels c.pending

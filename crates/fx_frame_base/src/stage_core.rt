@@ -111,6 +111,16 @@ impl StageCore {
         self.taken += 1;
     }
 
+    /// Keeps this frame, of which no sample was clipped, until it is given; None: no frame is pending. It counts nothing: for a
+    /// stage whose pending frame is not the one that it took last.
+    #[inline(always)]
+    pub fn set_pending(&mut self, pending: Option<Frame>)
+        ensures { self.new ≡ record self.old { pending = pending; pending_clips = 0 } }
+    {
+        self.pending = pending;
+        self.pending_clips = 0;
+    }
+
     /// Gives the pending frame, and counts it and its clips; None, with nothing changed, where there is none.
     #[inline(always)]
     pub fn give(&mut self) -> Option<Frame>
