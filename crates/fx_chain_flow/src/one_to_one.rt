@@ -18,7 +18,7 @@ pub(crate) fn min_one_to_one<S: Feeds>(stages: &[S], maximum: usize) -> usize
 {
     let mut minimum = maximum;
     'stages: for place in (0..stages.len()).rev() {
-        let one_to_one = stages[place].one_to_one();
+        let one_to_one = stages[place].forecast().one_to_one;
         minimum = (minimum as u64).min(one_to_one) as usize;
     }
     minimum

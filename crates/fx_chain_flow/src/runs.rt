@@ -49,7 +49,7 @@ pub(crate) fn min_ahead<S: Feeds>(stages: &[S], maximum: usize) -> usize
 {
     let mut minimum = maximum;
     'stages: for place in (0..stages.len()).rev() {
-        let ahead = stages[place].ahead();
+        let ahead = stages[place].forecast().ahead;
         minimum = (minimum as u64).min(ahead) as usize;
     }
     minimum
@@ -194,7 +194,7 @@ fn none_due_of_first<S: Feeds>(stages: &[S], maximum: usize) -> usize
         return 0;
     }
     let frames = SPACE / stages[0].out_channels().max(1);
-    let none_due = stages[0].none_due().min(frames as u64);
+    let none_due = stages[0].forecast().none_due.min(frames as u64);
     (maximum as u64).min(none_due) as usize
 }
 

@@ -9,8 +9,8 @@ ghost use Rattle.fx_tap_pointwise.specs.PerSampleState.{ThroughBoth};
 ghost use Rattle.fx_chain_stages.specs.Stages.{effect_acts, frames_into, frames_out_of};
 
 use crate::registry::{EffectStage, each, each_by_samples, each_selected};
-use fx_frame::{Counters, Feeds, Frame, Passed, Passing, WideFrame};
-use fx_frame_base::pipeline::{PassesEarly, PassesWhile};
+use fx_frame::{Counters, Feeds, Forecast, Frame, Passed, Passing, WideFrame};
+use fx_frame_base::pipeline::{PassesEarly, PassesPipeline, PassesWhile};
 use fx_frame_base::stage::Stage;
 use fx_tap_pointwise::around::pass_around;
 use fx_tap_pointwise::both::pass_both;
@@ -167,6 +167,17 @@ impl Feeds for EffectStage {
         }
     }
 
+    fn forecast(&self) -> Forecast {
+        each!(self, stage => stage.forecast())
+    }
+
+    #[tactic(auto, using(crate::proofs::Registered::joined_through))]
+    fn pass_frames(&mut self, count: usize, samples: &mut [i32]) {
+        each!(self, stage => stage.pass_frames(count, samples))
+    }
+}
+
+impl PassesPipeline for EffectStage {
     fn pass_pipeline(
         stages: &mut [EffectStage],
         channels: usize,
@@ -188,23 +199,6 @@ impl Feeds for EffectStage {
             return 0;
         }
         pass_three(first, second, third, count, input, output)
-    }
-
-    fn ahead(&self) -> u64 {
-        each!(self, stage => stage.ahead())
-    }
-
-    fn one_to_one(&self) -> u64 {
-        each!(self, stage => stage.one_to_one())
-    }
-
-    fn none_due(&self) -> u64 {
-        each!(self, stage => stage.none_due())
-    }
-
-    #[tactic(auto, using(crate::proofs::Registered::joined_through))]
-    fn pass_frames(&mut self, count: usize, samples: &mut [i32]) {
-        each!(self, stage => stage.pass_frames(count, samples))
     }
 }
 

@@ -7,7 +7,7 @@ ghost use Rattle.fx_cut.specs.DownsampleState.{DownsampleState, IsDownsample, do
 ghost use Rattle.fx_cut.specs.Strides.{firsts};
 
 use crate::many::{PassesMany, feed_by_pieces};
-use fx_frame::{Counters, Feeds, Frame, Passed, Stage, ThawFault, WideFrame};
+use fx_frame::{Counters, Feeds, Forecast, Frame, Passed, Stage, ThawFault, WideFrame};
 use fx_frame_base::StageCore;
 use fx_frame_base::pending::{stored_pending, thawed_pending};
 use fx_frame_base::stage::MAX_TAKEN;
@@ -234,7 +234,7 @@ impl Feeds for Downsample {
         feed_by_pieces(self, input, output)
     }
 
-    fn ahead(&self) -> u64 {
-        u64::MAX
+    fn forecast(&self) -> Forecast {
+        Forecast::endless(0)
     }
 }

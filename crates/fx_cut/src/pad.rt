@@ -16,7 +16,9 @@ use crate::extents::max_pad_end;
 use crate::many::{PassesMany, feed_by_pieces, pass_by_frame};
 use fx_fixed::At;
 use fx_frame::frozen::{stored_in, thawed_line_and_pending};
-use fx_frame::{Counters, Feeds, Frame, Line, Passed, Passing, Stage, ThawFault, WideFrame};
+use fx_frame::{
+    Counters, Feeds, Forecast, Frame, Line, Passed, Passing, Stage, ThawFault, WideFrame,
+};
 use fx_frame_base::feed::copy_frames;
 use fx_frame_base::stage::MAX_TAKEN;
 use std::alloc::{AllocError, Global};
@@ -492,15 +494,11 @@ impl Feeds for Pad {
         pass_by_frame(self, samples)
     }
 
-    fn ahead(&self) -> u64 {
-        u64::MAX
-    }
-
-    /// Where it has no line, the frames up to the next pad.
-    fn one_to_one(&self) -> u64 {
+    /// Where it has no line, it gives one for each of the frames up to the next pad.
+    fn forecast(&self) -> Forecast {
         if self.line.capacity() != 0 || self.ended {
-            return 0;
+            return Forecast::endless(0);
         }
-        clear_frames_from(self.pads.all(), self.taken)
+        Forecast::endless(clear_frames_from(self.pads.all(), self.taken))
     }
 }

@@ -14,9 +14,11 @@ ghost use Rattle.fx_frame_base.specs.Frame.{IsChannelCount};
 use crate::lines::{exchange_full, push_over};
 use crate::many::{PassesMany, feed_by_pieces};
 use fx_frame::frozen::{stored_in, thawed_line_and_pending};
-use fx_frame::{Counters, Feeds, Frame, Line, Passed, Passing, Stage, ThawFault, WideFrame};
+use fx_frame::{
+    Counters, Feeds, Forecast, Frame, Line, Passed, Passing, Stage, ThawFault, WideFrame,
+};
 use fx_frame_base::feed::see_samples;
-use fx_frame_base::pipeline::{PassesEarly, PassesWhile, pass_in_place};
+use fx_frame_base::pipeline::{PassesEarly, PassesPipeline, PassesWhile, pass_in_place};
 use fx_frame_base::stage::MAX_TAKEN;
 use std::alloc::{AllocError, Global};
 use std::marker::Model;
@@ -418,37 +420,37 @@ impl<S: Selection + Drop> Feeds for Selected<S> {
         self.given += passed;
     }
 
-    fn ahead(&self) -> u64 {
-        wanted(self.selection.enough(), self.taken)
-    }
-
-    /// The frames that fill its line, and those that push omitted ones out of it.
-    fn none_due(&self) -> u64 {
+    /// None is due for the frames that fill its line, and those that push omitted ones out of it. Once the line is full, it gives
+    /// one for each of those that push given ones out of it.
+    fn forecast(&self) -> Forecast {
+        let taken = self.taken;
         let reach = self.line.capacity() as u64;
-        let free = reach.saturating_sub(self.taken);
-        let frame_run = self
-            .selection
-            .frame_run_from(self.taken.saturating_sub(reach));
+        let free = reach.saturating_sub(taken);
+        let frame_run = self.selection.frame_run_from(taken.saturating_sub(reach));
+        let ahead = wanted(self.selection.enough(), taken);
         if !frame_run.is_given {
-            return free.saturating_add(frame_run.frames);
+            return Forecast {
+                ahead,
+                one_to_one: 0,
+                none_due: free.saturating_add(frame_run.frames),
+            };
         }
-        free
-    }
-
-    /// Once its line is full, the frames that push given ones out of it.
-    fn one_to_one(&self) -> u64 {
-        let lined = self.line.capacity() as u64;
-        if self.taken < lined {
-            return 0;
+        if free > 0 {
+            return Forecast {
+                ahead,
+                one_to_one: 0,
+                none_due: free,
+            };
         }
-        let frame_run = self.selection.frame_run_from(self.taken - lined);
-        if frame_run.is_given {
-            frame_run.frames
-        } else {
-            0
+        Forecast {
+            ahead,
+            one_to_one: frame_run.frames,
+            none_due: 0,
         }
     }
 }
+
+impl<S: Selection + Drop> PassesPipeline for Selected<S> {}
 
 impl<S: Selection + Drop> PassesEarly for Selected<S> {
     ghost early = { λ s. length s.line.items };

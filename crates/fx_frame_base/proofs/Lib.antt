@@ -7,6 +7,7 @@ pub mod FedLaws
 pub mod FeedParts
 pub mod Feeding
 pub mod Flags
+pub mod Forecasts
 pub mod ListPlaces
 pub mod Pieces
 pub mod PipelineLaws

@@ -1,10 +1,20 @@
 -- Frames passed to a stage many at a time, and taken from it likewise (this project's profile).
 use Rattle.std.specs.Prelude.{ℕ, ℤ, ◌+◌, ◌-◌, ◌*◌, ◌<◌, ◌≤◌, ◌≡◌, true, false, List, [], ◌∷◌, ◌++◌, drop, length}
+use Rattle.fx_frame_base.specs.declared.feed.Forecast.{Forecast}
 use Rattle.fx_frame_base.specs.declared.feed.Passing.{Passing}
 use Rattle.fx_frame_base.specs.declared.feed.Passing.TheVariants.{Kept, Through, More}
 use Rattle.fx_frame_base.specs.Frame.{Samples}
 use Rattle.fx_frame_base.specs.Lists.{pieces}
-use Rattle.fx_frame_base.specs.Stage.{Acts, Gave, Took, hold_of, is_enough, kind, spent}
+use Rattle.fx_frame_base.specs.Stage.{Acts, Gave, StageKind, Took, hold_of, is_enough, kind, spent}
+
+-- this is known of the next frames of a stage that takes and gives so, after `taken` frames
+pub record IsForecast (k : StageKind) (taken : ℕ) (next : Forecast) : Type 0 where
+  -- those taken are not enough
+  pub ahead : (n : ℕ) → n < next.ahead → is_enough k.enough (taken + n) ≡ false
+  -- for each of them one more is due
+  pub one_to_one : (n : ℕ) → n ≤ next.one_to_one → k.due (taken + n) ≡ k.due taken + n
+  -- none is due for them
+  pub none_due : (n : ℕ) → n ≤ next.none_due → k.due (taken + n) ≡ k.due taken
 
 module _ {S R : Type 0} (acts : Acts S R) where
   -- it holds no more frames than its hold

@@ -1,11 +1,10 @@
 //! Frames passed to a stage many at a time.
-ghost use Rattle.std.specs.Prelude.{◌≡◌, ◌<◌, ◌≤◌, ◌+◌, ◌*◌, ◌++◌, true, false, FitsSigned, drop, length, take};
+ghost use Rattle.std.specs.Prelude.{◌≡◌, ◌<◌, ◌≤◌, ◌+◌, ◌-◌, ◌*◌, ◌^◌, ◌++◌, true, false, FitsSigned, drop, length, take};
 ghost use Rattle.std.specs.Int.{w32};
 ghost use Rattle.std.specs.List.{All};
-ghost use Rattle.fx_frame_base.specs.Feed.{FedBlock, IsAhead, IsNoneDue, IsOneToOne, KeepsRest, LeavesSpace, MayTakeAll, PassedOn, TookAll, TookWithinSpace, UsesInput};
-ghost use Rattle.fx_frame_base.specs.Holds.{kinds};
+ghost use Rattle.fx_frame_base.specs.Feed.{FedBlock, IsAhead, IsNoneDue, IsOneToOne, KeepsRest, LeavesSpace, IsForecast, MayTakeAll, PassedOn, TookAll, TookWithinSpace, UsesInput};
 ghost use Rattle.fx_frame_base.specs.Lists.{pieces};
-ghost use Rattle.fx_frame_base.specs.Pipeline.{AreReadyFor, EachInPlace, PipelineThrough, outputs_of};
+ghost use Rattle.fx_frame_base.specs.Pipeline.{EachInPlace};
 ghost use Rattle.fx_frame_base.specs.Stage.{IsDry, IsLined, kind, spent};
 ghost use Rattle.fx_frame_base.specs.Frame.{IsChannelCount};
 
@@ -34,6 +33,31 @@ pub enum Passing {
     Through,
     /// A frame was given, and another is to be given now.
     More,
+}
+
+/// For how many of the next frames it is known what a stage does. Each number may be less than it could be, and 0 always holds.
+#[derive(Clone, Copy)]
+pub struct Forecast {
+    /// For that many it has not had enough.
+    pub ahead: u64,
+    /// For each of that many it gives one.
+    pub one_to_one: u64,
+    /// For that many none is due.
+    pub none_due: u64,
+}
+
+impl Forecast {
+    /// That of a stage that never has enough, and gives a frame for each of the next `one_to_one` that it takes.
+    #[inline(always)]
+    pub const fn endless(one_to_one: u64) -> Forecast
+        ensures { result ≡ record { ahead = 2 ^ 64 - 1; one_to_one = one_to_one; none_due = 0 } }
+    {
+        Forecast {
+            ahead: u64::MAX,
+            one_to_one,
+            none_due: 0,
+        }
+    }
 }
 
 /// A stage that takes and gives many frames in one call.
@@ -105,50 +129,15 @@ pub trait Feeds: Stage {
         passing
     }
 
-    /// Passes `count` frames at the front of the input through stages in sequence, in groups of at most one frame more than there
-    /// are stages, and writes those that come out, one for each, to the front of the output. Returns how many it passed: none
-    /// where it has no specialized code for these stages.
-    fn pass_pipeline(
-        stages: &mut [Self],
-        channels: usize,
-        outputs: usize,
-        count: usize,
-        input: &[i32],
-        output: &mut [i32],
-    ) -> usize
-        requires frame { IsChannelCount channels }
-        requires ready { AreReadyFor Self.acts channels count stages.old }
-        requires outputs { outputs ≡ outputs_of channels (kinds Self.acts stages.old) }
-        requires input { count * channels ≤ length input.now }
-        requires free { count * outputs ≤ length output.old }
-        ensures bound { result ≤ count }
-        ensures frame { 1 ≤ result → 1 ≤ outputs }
-        ensures samples { All (FitsSigned w32) (take (result * channels) input.now) }
-        ensures through { PipelineThrough Self.acts (pieces channels result input.now) (pieces outputs result output.new) stages.old stages.new }
-        ensures rest_unchanged { drop (result * outputs) output.new ≡ drop (result * outputs) output.old }
+    /// What it does with the next frames.
+    fn forecast(&self) -> Forecast
+        ensures { IsForecast (kind Self.acts self.now) (Self.acts.counts self.now).taken result }
     {
-        0
-    }
-
-    /// For that many more frames it has not had enough.
-    fn ahead(&self) -> u64
-        ensures { IsAhead Self.acts result self.now }
-    {
-        ahead_by_calls(self)
-    }
-
-    /// For that many more frames it gives one for each that it takes.
-    fn one_to_one(&self) -> u64
-        ensures { IsOneToOne Self.acts result self.now }
-    {
-        0
-    }
-
-    /// For that many more frames none is due.
-    fn none_due(&self) -> u64
-        ensures { IsNoneDue Self.acts result self.now }
-    {
-        0
+        Forecast {
+            ahead: ahead_by_calls(self),
+            one_to_one: 0,
+            none_due: 0,
+        }
     }
 
     /// As `pass_samples`, for `count` frames one after another, for each of which it gives one.

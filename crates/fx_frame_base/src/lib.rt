@@ -47,7 +47,7 @@ pub mod wide;
 pub use coding::Coding;
 pub use counted::Counted;
 pub use device::Device;
-pub use feed::{Feeds, Passed, Passing};
+pub use feed::{Feeds, Forecast, Passed, Passing};
 pub use frame::{Frame, FrameOf};
 pub use io::{ByteIn, ByteOut, Failed, ReadBeside, Rewind};
 pub use sample::Sample;

@@ -1,10 +1,13 @@
 //! Frames that go through stages in sequence, many at a time.
-ghost use Rattle.std.specs.Prelude.{◌≡◌, ◌≤◌, ◌+◌, ◌*◌, ℕ, List, length, false, true};
+ghost use Rattle.std.specs.Prelude.{◌≡◌, ◌≤◌, ◌+◌, ◌*◌, ℕ, List, FitsSigned, drop, length, take, false, true};
+ghost use Rattle.std.specs.Int.{w32};
+ghost use Rattle.std.specs.List.{All};
 ghost use Rattle.fx_frame_base.specs.Early.{MayPassEarly, PassedEarly, PassedInPlace, WhileHeld};
 ghost use Rattle.fx_frame_base.specs.Feed.{IsAhead, IsOneToOne};
 ghost use Rattle.fx_frame_base.specs.Frame.{IsChannelCount, Samples};
 ghost use Rattle.fx_frame_base.specs.Holds.{kinds};
-ghost use Rattle.fx_frame_base.specs.Pipeline.{AllAhead, AllKeep, AllOneToOne, AreReadyFor, EachInPlace};
+ghost use Rattle.fx_frame_base.specs.Lists.{pieces};
+ghost use Rattle.fx_frame_base.specs.Pipeline.{AllAhead, AllKeep, AllOneToOne, AreReadyFor, EachInPlace, PipelineThrough, outputs_of};
 ghost use Rattle.fx_frame_base.specs.Stage.{IsLined, kind};
 
 use crate::feed::Feeds;
@@ -78,8 +81,36 @@ pub fn pass_in_place<S: PassesWhile, L: HoldsFrames>(
     pass_in_place(rest, line, channels, count, samples);
 }
 
+/// A stage of a kind that may have specialized code for several of its kind in sequence.
+pub trait PassesPipeline: Feeds {
+    /// Passes `count` frames at the front of the input through stages in sequence, in groups of at most one frame more than there
+    /// are stages, and writes those that come out, one for each, to the front of the output. Returns how many it passed: none
+    /// where it has no specialized code for these stages.
+    fn pass_pipeline(
+        stages: &mut [Self],
+        channels: usize,
+        outputs: usize,
+        count: usize,
+        input: &[i32],
+        output: &mut [i32],
+    ) -> usize
+        requires frame { IsChannelCount channels }
+        requires ready { AreReadyFor Self.acts channels count stages.old }
+        requires outputs { outputs ≡ outputs_of channels (kinds Self.acts stages.old) }
+        requires input { count * channels ≤ length input.now }
+        requires free { count * outputs ≤ length output.old }
+        ensures bound { result ≤ count }
+        ensures frame { 1 ≤ result → 1 ≤ outputs }
+        ensures samples { All (FitsSigned w32) (take (result * channels) input.now) }
+        ensures through { PipelineThrough Self.acts (pieces channels result input.now) (pieces outputs result output.new) stages.old stages.new }
+        ensures rest_unchanged { drop (result * outputs) output.new ≡ drop (result * outputs) output.old }
+    {
+        0
+    }
+}
+
 /// A stage that may pass frames on early: to the stages after it, before as many others come.
-pub trait PassesEarly: Feeds {
+pub trait PassesEarly: PassesPipeline {
     /// How many of the frames that it holds may go on before as many others come: none where what it gives depends on these.
     ghost early: { Self → ℕ };
 

@@ -131,10 +131,9 @@ impl StageCore {
         ensures some { is_some result ≡ true → self.new ≡ after_pending self.old }
     {
         let frame = self.pending?;
-        self.pending = None;
         self.given += 1;
         self.clips += self.pending_clips;
-        self.pending_clips = 0;
+        self.set_pending(None);
         Some(frame)
     }
 

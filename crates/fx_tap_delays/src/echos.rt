@@ -21,7 +21,9 @@ use crate::sums::{add_scaled, round_sums, sums_into};
 use fx_fixed::{Gain, UNIT};
 use fx_frame::groups::{SAMPLES_OF_BATCH, SAMPLES_OF_GROUP};
 use fx_frame::numbers::{CoreNumbers, TailNumbers};
-use fx_frame::{Counters, Feeds, Frame, Passed, Passing, Stage, ThawFault, WideFrame, WideLine};
+use fx_frame::{
+    Counters, Feeds, Forecast, Frame, Passed, Passing, Stage, ThawFault, WideFrame, WideLine,
+};
 use fx_frame_base::feed::{feed_by_frames, frame_at};
 use fx_frame_base::frame::MAX_CHANNELS;
 use fx_frame_base::pending::stored_pending;
@@ -738,11 +740,7 @@ impl Feeds for Echos {
         self.core.pass(count, clips);
     }
 
-    fn ahead(&self) -> u64 {
-        u64::MAX
-    }
-
-    fn one_to_one(&self) -> u64 {
-        u64::MAX
+    fn forecast(&self) -> Forecast {
+        Forecast::endless(u64::MAX)
     }
 }

@@ -11,7 +11,9 @@ ghost use Rattle.fx_frame_base.specs.Frame.{IsChannelCount};
 use fx_frame::frozen::{stored_in, thawed_line_and_pending};
 use fx_frame::groups::{SAMPLES_OF_GROUP, frames_of_group};
 use fx_frame::numbers::{CoreNumbers, TailNumbers};
-use fx_frame::{Counters, Feeds, Frame, Line, Passed, Passing, Stage, ThawFault, WideFrame};
+use fx_frame::{
+    Counters, Feeds, Forecast, Frame, Line, Passed, Passing, Stage, ThawFault, WideFrame,
+};
 use fx_frame_base::StageCore;
 use fx_frame_base::feed::{copy_samples, feed_by_frames, frame_at};
 use fx_tap_sums::inner::sample_or_silence;
@@ -515,11 +517,7 @@ impl<T: TapsMany + Drop> Feeds for Tapped<T> {
         self.core.pass(count, clips);
     }
 
-    fn ahead(&self) -> u64 {
-        u64::MAX
-    }
-
-    fn one_to_one(&self) -> u64 {
-        u64::MAX
+    fn forecast(&self) -> Forecast {
+        Forecast::endless(u64::MAX)
     }
 }

@@ -17,7 +17,9 @@ use fx_fixed::Gain;
 use fx_frame::frozen::{stored_in, thawed_line_and_pending};
 use fx_frame::groups::{SAMPLES_OF_BATCH, SAMPLES_OF_GROUP};
 use fx_frame::numbers::{CoreNumbers, TailNumbers};
-use fx_frame::{Counters, Feeds, Frame, Line, Passed, Passing, Stage, ThawFault, WideFrame};
+use fx_frame::{
+    Counters, Feeds, Forecast, Frame, Line, Passed, Passing, Stage, ThawFault, WideFrame,
+};
 use fx_frame_base::StageCore;
 use fx_frame_base::feed::{feed_by_frames, frame_at};
 use fx_frame_base::frame::MAX_CHANNELS;
@@ -739,14 +741,10 @@ impl Feeds for Fir {
         self.core.pass(count, clips);
     }
 
-    fn ahead(&self) -> u64 {
-        u64::MAX
-    }
-
-    fn one_to_one(&self) -> u64 {
+    fn forecast(&self) -> Forecast {
         if self.core.counter_values().taken < centre_of(self.kernel.len()) as u64 {
-            return 0;
+            return Forecast::endless(0);
         }
-        u64::MAX
+        Forecast::endless(u64::MAX)
     }
 }

@@ -7,7 +7,7 @@ ghost use Rattle.fx_frame.specs.Made.{clips_in, made_of};
 ghost use Rattle.fx_tap_pointwise.specs.Mapped.{MapsBlock, RestoresMapped};
 
 use fx_frame::numbers::CoreNumbers;
-use fx_frame::{Counters, Feeds, Frame, Passed, Passing, Stage, ThawFault, WideFrame};
+use fx_frame::{Counters, Feeds, Forecast, Frame, Passed, Passing, Stage, ThawFault, WideFrame};
 use fx_frame_base::StageCore;
 use fx_frame_base::feed::{feed_by_frames, frame_at, put_frame};
 use fx_frame_base::frame::MAX_CHANNELS;
@@ -355,11 +355,7 @@ impl<M: MapsMany + Drop> Feeds for Mapped<M> {
         self.core.pass(count, clips);
     }
 
-    fn ahead(&self) -> u64 {
-        u64::MAX
-    }
-
-    fn one_to_one(&self) -> u64 {
-        u64::MAX
+    fn forecast(&self) -> Forecast {
+        Forecast::endless(u64::MAX)
     }
 }

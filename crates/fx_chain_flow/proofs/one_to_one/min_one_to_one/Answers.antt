@@ -9,5 +9,5 @@ stages-preserved g c =
     let more = AllOneToOne-less acts c.min-minimum.result c.stages.minimum _ (omega (arith, c.min-minimum.ensures)) c.stages.invariant.one_to_one in
     record {
       bound = omega (arith, c.min-minimum.ensures, c.stages.invariant.bound);
-      one_to_one = AllOneToOne-drop acts (c.stages.place - 1) c.min-minimum.result c.args.stages.now c.index-stages-place.result (omega (arith, c.stages-test.true, c.stages.auto.place)) (λ n h. rw (← c.index-stages-place.is) (c.one_to_one-one_to_one.ensures n (omega (arith, c.min-minimum.ensures, h)))) (rw (← e) more);
+      one_to_one = AllOneToOne-drop acts (c.stages.place - 1) c.min-minimum.result c.args.stages.now c.index-stages-place.result (omega (arith, c.stages-test.true, c.stages.auto.place)) (λ n h. rw (← c.index-stages-place.is) (c.forecast-one_to_one.ensures.one_to_one n (omega (arith, c.min-minimum.ensures, h)))) (rw (← e) more);
     }

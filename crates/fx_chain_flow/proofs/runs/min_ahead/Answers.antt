@@ -9,5 +9,5 @@ stages-preserved g c =
     let more = AllAhead-less acts c.min-minimum.result c.stages.minimum _ (omega (arith, c.min-minimum.ensures)) c.stages.invariant.ahead in
     record {
       bound = omega (arith, c.min-minimum.ensures, c.stages.invariant.bound);
-      ahead = AllAhead-drop acts (c.stages.place - 1) c.min-minimum.result c.args.stages.now c.index-stages-place.result (omega (arith, c.stages-test.true, c.stages.auto.place)) (λ n h. rw (← c.index-stages-place.is) (c.ahead-ahead.ensures n (omega (arith, c.min-minimum.ensures, h)))) (rw (← e) more);
+      ahead = AllAhead-drop acts (c.stages.place - 1) c.min-minimum.result c.args.stages.now c.index-stages-place.result (omega (arith, c.stages-test.true, c.stages.auto.place)) (λ n h. rw (← c.index-stages-place.is) (c.forecast-ahead.ensures.ahead n (omega (arith, c.min-minimum.ensures, h)))) (rw (← e) more);
     }

@@ -4,7 +4,7 @@ use Rattle.std.proofs.lemmas.Grind.{common_steps}
 use Rattle.fx_frame_base.proofs.PipelineLaws.{PipelineThrough-none}
 use Rattle.fx_frame_base.specs.Stage.{kind}
 use Rattle.fx_chain_stages.specs.Stages.{effect_acts}
-use Rattle.fx_chain_stages.proofs.stage.EffectStageFeeds.pass_pipeline.Goals as goal
+use Rattle.fx_chain_stages.proofs.stage.EffectStagePassesPipeline.pass_pipeline.Goals as goal
 
 pub returns-then-not-is_empty-clause-through : goal.returns-then-not-is_empty-clause-through
 returns-then-not-is_empty-clause-through c =
