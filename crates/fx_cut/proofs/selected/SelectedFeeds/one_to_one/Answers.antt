@@ -8,7 +8,7 @@ returns-then-frame_run g c = λ n bound.
     let m = c.self.inside.selection in
     let cap = c.self.invariant.capacity in
     let line = c.capacity-lined.ensures.capacity in
-    let full : selects.reach m ≤ c.self.inside.taken = omega arith in
-    let same : c.self.inside.taken - c.capacity-lined.result ≡ c.self.inside.taken - selects.reach m = omega arith in
+    let full : selects.reach m ≤ c.self.inside.core.taken = omega arith in
+    let same : c.taken_of-taken.result - c.capacity-lined.result ≡ c.self.inside.core.taken - selects.reach m = omega arith in
     let alike = rw same at c.frame_run_from-frame_run.ensures.alike in
-    rw (← c.self.view_is) (due-along selects g.S.Selection.determined m c.self.inside.taken n full (λ i h. alike i (omega arith) ∙ c.if-frame_run.true))
+    rw (← c.self.view_is) (due-along selects g.S.Selection.determined m c.self.inside.core.taken n full (λ i h. alike i (omega arith) ∙ c.if-frame_run.true))
