@@ -21,12 +21,12 @@ use Rattle.fx_tap_pointwise.specs.RemixState.{remix_acts}
 use Rattle.fx_tap_fir.specs.FirState.{fir_acts}
 
 pub is-member : (s : EffectStage) → IsMember s
-is-member (stages.Trim s) = record { narrow = λ h. narrow-stored s.line _ s.pending h.line h.fits; keeps = λ other. refl }
+is-member (stages.Trim s) = record { narrow = λ h. narrow-stored s.line _ s.core.pending h.line h.core.fits; keeps = λ other. refl }
 is-member (stages.Pad s) = record { narrow = λ h. narrow-stored s.line _ s.pending h.line h.fits; keeps = λ other. refl }
 is-member (stages.Delay s) = record { narrow = λ h. narrow-stored s.line _ s.core.pending h.line h.core.fits; keeps = λ other. refl }
 is-member (stages.Echo s) = record { narrow = λ h. narrow-stored s.line _ s.core.pending h.line h.core.fits; keeps = λ other. refl }
 is-member (stages.Echos s) = record { narrow = λ h. narrow-pending _ s.core.pending h.core.fits; keeps = λ other. refl }
-is-member (stages.Fade s) = record { narrow = λ h. narrow-stored s.line _ s.pending h.line h.fits; keeps = λ other. refl }
+is-member (stages.Fade s) = record { narrow = λ h. narrow-stored s.line _ s.core.pending h.line h.core.fits; keeps = λ other. refl }
 is-member (stages.Vol s) = record { narrow = λ h. narrow-pending _ s.core.pending h.core.fits; keeps = λ other. refl }
 is-member (stages.DcShift s) = record { narrow = λ h. narrow-pending _ s.core.pending h.core.fits; keeps = λ other. refl }
 is-member (stages.Fir s) = record { narrow = λ h. narrow-stored s.line _ s.core.pending h.line h.core.fits; keeps = λ other. refl }

@@ -24,7 +24,7 @@ use Rattle.fx_cut.proofs.Fallen.{fallen}
 use Rattle.fx_cut.proofs.Onto.{gone, onto, onto-line, onto-long, onto-more, onto-none, out-full, out-more, out-free, out_of, same-line}
 use Rattle.fx_cut.proofs.Pieces.{all-pieces}
 use Rattle.fx_cut.proofs.SelectPassing.{Gave-before, IsSelect-before, held-select}
-use Rattle.fx_cut.proofs.SelectSteps.{IsSelect-fallen, IsSelect-inside, Took-fallen, Took-inside, came, due-given, due-maximum}
+use Rattle.fx_cut.proofs.SelectSteps.{IsSelect-fallen, IsSelect-inside, Took-fallen, Took-inside, came, due-given, due-maximum, stayed}
 
 pub no-frames : (gs : List Samples) (ws : List Given) → map plain gs ≡ ws → ws ≡ [] → gs ≡ []
 no-frames [] ws e n = refl
@@ -39,49 +39,53 @@ counts-more true g k j n e = omega arith
 counts-more false g k j n e = refl
 
 module _ {M : Type 0} (selects : Selects M) where
-  -- after these frames, with no frame in hand, where all that fell out were given, or none
+  -- with no pending frame, this line and these counts
+  abbrev pub cleared : SelectedState M → Frames ℤ → ℕ → ℕ → SelectedState M
+  cleared s line t g = record s { line = line; core = record s.core { pending = None; pending_clips = 0; taken = t; given = g } }
+
+  -- after these frames, with no pending frame, where all that fell out were given, or none
   abbrev pub later : Bool → SelectedState M → List Samples → SelectedState M
-  later b s xs = record s { pending = None; line = onto s.line xs; taken = s.taken + length xs; given = cond b (s.given + gone s.line (length xs)) s.given }
+  later b s xs = cleared s (onto s.line xs) (s.core.taken + length xs) (cond b (s.core.given + gone s.line (length xs)) s.core.given)
 
   -- what the stage is after so many frames of the input, of which so many were given
   abbrev pub passed : SelectedState M → Frames ℤ → ℕ → ℕ → SelectedState M
-  passed s line n k = record s { line = line; taken = s.taken + n; given = s.given + k }
+  passed s line n k = record s { line = line; core = record s.core { taken = s.core.taken + n; given = s.core.given + k } }
 
   -- what a stage meets that gives, or leaves out, all the frames that fall out when so many come
   pub record Alike (b : Bool) (s : SelectedState M) (n : ℕ) : Type 0 where
     pub is : IsSelectedState selects s
-    pub empty : s.pending ≡ None
-    pub running : s.ended ≡ false
-    pub gives : (i : ℕ) → i < gone s.line n → selects.gives s.arguments (determined_in selects s.arguments (s.taken - length s.line.items + i)) (s.taken - length s.line.items + i) ≡ b
-    pub wanted : (i : ℕ) → i < n → is_enough (selects.enough s.arguments) (s.taken + i) ≡ false
-    pub bound : s.taken + n ≤ 2 ^ 56
+    pub empty : s.core.pending ≡ None
+    pub running : s.core.ended ≡ false
+    pub gives : (i : ℕ) → i < gone s.line n → selects.gives s.arguments (determined_in selects s.arguments (s.core.taken - length s.line.items + i)) (s.core.taken - length s.line.items + i) ≡ b
+    pub wanted : (i : ℕ) → i < n → is_enough (selects.enough s.arguments) (s.core.taken + i) ≡ false
+    pub bound : s.core.taken + n ≤ 2 ^ 56
 
   -- what one frame leads to, where these are given
   abbrev Next : Bool → SelectedState M → Samples → List Samples → Type 0
   Next b s x gs = Fed (selected_acts selects) s (x ∷ []) gs (later b s (x ∷ [])) × IsSelectedState selects (later b s (x ∷ []))
 
-  pub same-state : (s : SelectedState M) (l m : Frames ℤ) (t u g h : ℕ) → l ≡ m → t ≡ u → g ≡ h → ◌≡◌ {A = SelectedState M} (record s { pending = None; line = l; taken = t; given = g }) (record s { pending = None; line = m; taken = u; given = h })
+  pub same-state : (s : SelectedState M) (l m : Frames ℤ) (t u g h : ℕ) → l ≡ m → t ≡ u → g ≡ h → cleared s l t g ≡ cleared s m u h
   same-state s l m t u g h e e' e'' = rw (e, e', e'') refl
 
-  pub later-none : (b : Bool) (s : SelectedState M) → IsSelectedState selects s → s.pending ≡ None → later b s [] ≡ s
+  pub later-none : (b : Bool) (s : SelectedState M) → IsSelectedState selects s → s.core.pending ≡ None → later b s [] ≡ s
   later-none b s is e =
       let within = is.line.within in
       let none = onto-none s.line within in
       let gone-none : gone s.line 0 ≡ 0 = omega arith in
-      let back : ◌≡◌ {A = SelectedState M} (record s { pending = None }) s = rw (← e) refl in
-      same-state s (onto s.line []) s.line (s.taken + 0) s.taken (cond b (s.given + gone s.line 0) s.given) s.given none.0 (add-zero s.taken) (no-counts b s.given (gone s.line 0) gone-none) ∙ back
+      let back : cleared s s.line s.core.taken s.core.given ≡ s = rw (e, is.core.no_pending_clips) refl in
+      same-state s (onto s.line []) s.line (s.core.taken + 0) s.core.taken (cond b (s.core.given + gone s.line 0) s.core.given) s.core.given none.0 (add-zero s.core.taken) (no-counts b s.core.given (gone s.line 0) gone-none) ∙ back
 
   pub later-more : (b : Bool) (s : SelectedState M) (x : Samples) (xs : List Samples) → length s.line.items ≤ s.line.capacity → later b (later b s (x ∷ [])) xs ≡ later b s (x ∷ xs)
   later-more b s x xs within =
       let next : Frames ℤ = onto s.line (x ∷ []) in
       let long = onto-long s.line (x ∷ []) in
-      let t : s.taken + 1 + length xs ≡ s.taken + length (x ∷ xs) = omega arith in
+      let t : s.core.taken + 1 + length xs ≡ s.core.taken + length (x ∷ xs) = omega arith in
       let k : gone s.line (length (x ∷ xs)) ≡ gone s.line 1 + gone next (length xs) = omega arith in
-      same-state s (onto next xs) (onto s.line (x ∷ xs)) (s.taken + 1 + length xs) (s.taken + length (x ∷ xs)) _ (cond b (s.given + gone s.line (length (x ∷ xs))) s.given) (onto-more s.line x xs within) t (counts-more b s.given (gone s.line 1) (gone next (length xs)) (gone s.line (length (x ∷ xs))) k)
+      same-state s (onto next xs) (onto s.line (x ∷ xs)) (s.core.taken + 1 + length xs) (s.core.taken + length (x ∷ xs)) _ (cond b (s.core.given + gone s.line (length (x ∷ xs))) s.core.given) (onto-more s.line x xs within) t (counts-more b s.core.given (gone s.line 1) (gone next (length xs)) (gone s.line (length (x ∷ xs))) k)
 
   module _ (ok : AreDetermined selects) where
     module _ (b : Bool) (s : SelectedState M) (n : ℕ) (x : Samples) (a : Alike b s (suc n)) (sample : IsSamples w32 s.line.channels x) where
-      dry : is_none s.pending ≡ true
+      dry : is_none s.core.pending ≡ true
       dry = ap is_none a.empty
 
       within : length s.line.items ≤ s.line.capacity
@@ -90,10 +94,10 @@ module _ {M : Type 0} (selects : Selects M) where
       lined : IsLine w32 (onto s.line (x ∷ []))
       lined = onto-line s.line (x ∷ []) a.is.line (All-cons (IsSamples w32 s.line.channels) x [] sample (All-nil (IsSamples w32 s.line.channels)))
 
-      some : is_enough (selects.enough s.arguments) s.taken ≡ false
+      some : is_enough (selects.enough s.arguments) s.core.taken ≡ false
       some = let k = a.wanted 0 (omega arith) in rw add-zero at k
 
-      below : s.taken < 2 ^ 56
+      below : s.core.taken < 2 ^ 56
       below = let bound = a.bound in omega arith
 
       -- it stays in the line
@@ -101,9 +105,9 @@ module _ {M : Type 0} (selects : Selects M) where
       inside h =
           let free = out-free s.line x within h in
           let none : gone s.line 1 ≡ 0 = omega arith in
-          let same : cond b (s.given + gone s.line 1) s.given ≡ s.given = no-counts b s.given (gone s.line 1) none in
-          let mid : SelectedState M = came selects s (onto s.line (x ∷ [])) s.pending in
-          let last : ◌≡◌ {A = SelectedState M} (later b s (x ∷ [])) mid = rw (same, a.empty) refl in
+          let same : cond b (s.core.given + gone s.line 1) s.core.given ≡ s.core.given = no-counts b s.core.given (gone s.line 1) none in
+          let mid : SelectedState M = stayed selects s (onto s.line (x ∷ [])) in
+          let last : ◌≡◌ {A = SelectedState M} (later b s (x ∷ [])) mid = rw (same, a.empty, a.is.core.no_pending_clips) refl in
           let now = IsSelect-inside selects ok s x a.is dry a.running (onto s.line (x ∷ [])) free.0 refl lined refl refl below in
           let step : TookNext (selected_acts selects) s mid x = record {
             dry = dry;
@@ -123,7 +127,7 @@ module _ {M : Type 0} (selects : Selects M) where
         one : gone s.line 1 ≡ 1
         one = let w = within in omega arith
 
-        here : selects.gives s.arguments (determined_in selects s.arguments (s.taken - length s.line.items)) (s.taken - length s.line.items) ≡ b
+        here : selects.gives s.arguments (determined_in selects s.arguments (s.core.taken - length s.line.items)) (s.core.taken - length s.line.items) ≡ b
         here =
             let some-out : 0 < gone s.line (suc n) = let w = within in omega arith in
             let k = a.gives 0 some-out in
@@ -134,7 +138,7 @@ module _ {M : Type 0} (selects : Selects M) where
         left e =
             let mid : SelectedState M = came selects s (onto s.line (x ∷ [])) None in
             let not-here = here ∙ e in
-            let none : [] ≡ selected_here selects s.arguments (determined_in selects s.arguments (s.taken - length s.line.items)) (s.taken - length s.line.items) out.0 = rw not-here refl in
+            let none : [] ≡ selected_here selects s.arguments (determined_in selects s.arguments (s.core.taken - length s.line.items)) (s.core.taken - length s.line.items) out.0 = rw not-here refl in
             let now = IsSelect-fallen selects ok s x a.is dry a.running (onto s.line (x ∷ [])) out.0 None out.1 refl lined refl refl below none (λ y q. absurd (cc)) in
             let step : TookNext (selected_acts selects) s mid x = record {
               dry = dry;
@@ -147,11 +151,11 @@ module _ {M : Type 0} (selects : Selects M) where
             rw e (taken [] [] x s mid nothing step, now)
 
         -- and is given
-        pub given-through : (g : Samples) → b ≡ true → plain g ≡ selects.made s.arguments (determined_in selects s.arguments (s.taken - length s.line.items)) (s.taken - length s.line.items) out.0 → IsSamples w32 s.line.channels g
+        pub given-through : (g : Samples) → b ≡ true → plain g ≡ selects.made s.arguments (determined_in selects s.arguments (s.core.taken - length s.line.items)) (s.core.taken - length s.line.items) out.0 → IsSamples w32 s.line.channels g
             → PassedOn (selected_acts selects) Through s (later b s (x ∷ [])) x g × IsSelectedState selects (later b s (x ∷ []))
         given-through g e is-g g-samples =
             let now-here = here ∙ e in
-            let made : plain g ∷ [] ≡ selected_here selects s.arguments (determined_in selects s.arguments (s.taken - length s.line.items)) (s.taken - length s.line.items) out.0 = rw now-here (ap (λ y. y ∷ []) is-g) in
+            let made : plain g ∷ [] ≡ selected_here selects s.arguments (determined_in selects s.arguments (s.core.taken - length s.line.items)) (s.core.taken - length s.line.items) out.0 = rw now-here (ap (λ y. y ∷ []) is-g) in
             let count = g-samples.count in
             let lines = a.is.line in
             let some-channels = lines.some in
@@ -159,7 +163,7 @@ module _ {M : Type 0} (selects : Selects M) where
             let whole : length g ≡ selects.channels s.arguments = count ∙ a.is.channels in
             let framed : IsFrame g = record { some = omega arith; bound = omega arith; fits = g-samples.fits } in
             let mid : SelectedState M = came selects s (onto s.line (x ∷ [])) (Some g) in
-            let last : SelectedState M = record mid { pending = None; given = mid.given + 1 } in
+            let last : SelectedState M = record mid { core = record mid.core { pending = None; given = mid.core.given + 1 } } in
             let same : ◌≡◌ {A = SelectedState M} (later b s (x ∷ [])) last = rw (e, one) refl in
             let pending : IsPending (selects.channels s.arguments) (Some g) = λ y q. let w : g ≡ y = cc in (rw (← w) framed, rw (← w) whole) in
             let is-mid : IsSelectedState selects mid = IsSelect-fallen selects ok s x a.is dry a.running (onto s.line (x ∷ [])) out.0 (Some g) out.1 refl lined refl refl below made pending in
@@ -175,7 +179,7 @@ module _ {M : Type 0} (selects : Selects M) where
             let gave : GaveNext (selected_acts selects) mid last g = record { gave = Gave-before selects mid g is-mid refl a.running; held = held-select selects last is-last } in
             rw same ((mid, step, gave, refl), is-last)
 
-        full : (g : Samples) → b ≡ true → plain g ≡ selects.made s.arguments (determined_in selects s.arguments (s.taken - length s.line.items)) (s.taken - length s.line.items) out.0 → IsSamples w32 s.line.channels g → Next b s x (g ∷ [])
+        full : (g : Samples) → b ≡ true → plain g ≡ selects.made s.arguments (determined_in selects s.arguments (s.core.taken - length s.line.items)) (s.core.taken - length s.line.items) out.0 → IsSamples w32 s.line.channels g → Next b s x (g ∷ [])
         full g e is-g g-samples =
             let passed-on = given-through g e is-g g-samples in
             (given (x ∷ []) [] g passed-on.0.0 (later b s (x ∷ [])) (taken [] [] x s passed-on.0.0 nothing passed-on.0.1) passed-on.0.2, passed-on.1)
@@ -192,16 +196,16 @@ module _ {M : Type 0} (selects : Selects M) where
             empty = refl;
             running = a.running;
             gives = λ i h.
-                let e : s.taken - length s.line.items + (gone s.line 1 + i) ≡ s.taken + 1 - now + i = omega arith in
+                let e : s.core.taken - length s.line.items + (gone s.line 1 + i) ≡ s.core.taken + 1 - now + i = omega arith in
                 let k = a.gives (gone s.line 1 + i) (omega arith) in
                 rw e at k;
-            wanted = λ i h. let e : s.taken + (i + 1) ≡ s.taken + 1 + i = omega arith in let k = a.wanted (i + 1) (omega arith) in rw e at k;
+            wanted = λ i h. let e : s.core.taken + (i + 1) ≡ s.core.taken + 1 + i = omega arith in let k = a.wanted (i + 1) (omega arith) in rw e at k;
             bound = let bound = a.bound in omega arith;
           }
 
     -- these are given for those that fall out
     abbrev Made : Bool → SelectedState M → List Samples → List Samples → Type 0
-    Made b s xs gs = map plain gs ≡ cond b (made_along selects s.arguments (s.taken - length s.line.items) (out_of s.line xs)) []
+    Made b s xs gs = map plain gs ≡ cond b (made_along selects s.arguments (s.core.taken - length s.line.items) (out_of s.line xs)) []
 
     -- what frames lead to, where these are given
     abbrev Leads : Bool → List Samples → Type 0
@@ -214,8 +218,8 @@ module _ {M : Type 0} (selects : Selects M) where
         let empty : gs ≡ [] = no-frames gs _ made (nothing-made b none) in
         rw (later-none b s a.is a.empty, empty) (nothing, a.is)
       where
-        nothing-made : (c : Bool) → out_of s.line [] ≡ [] → cond c (made_along selects s.arguments (s.taken - length s.line.items) (out_of s.line [])) [] ≡ []
-        nothing-made true e = ap (λ os. made_along selects s.arguments (s.taken - length s.line.items) os) e
+        nothing-made : (c : Bool) → out_of s.line [] ≡ [] → cond c (made_along selects s.arguments (s.core.taken - length s.line.items) (out_of s.line [])) [] ≡ []
+        nothing-made true e = ap (λ os. made_along selects s.arguments (s.core.taken - length s.line.items) os) e
         nothing-made false e = refl
 
     module _ (b : Bool) (x : Samples) (xs : List Samples) (rest : Leads b xs) (s : SelectedState M) (a : Alike b s (suc (length xs))) (samples : All (IsSamples w32 s.line.channels) (x ∷ xs)) where
@@ -240,14 +244,14 @@ module _ {M : Type 0} (selects : Selects M) where
           let none = (out-free s.line x a.is.line.within h).1 in
           let low = a.is.within in
           let long = onto-long s.line (x ∷ []) in
-          let place : s.taken - length s.line.items ≡ s.taken + 1 - length (onto s.line (x ∷ [])).items = omega arith in
+          let place : s.core.taken - length s.line.items ≡ s.core.taken + 1 - length (onto s.line (x ∷ [])).items = omega arith in
           let outs : out_of s.line (x ∷ xs) ≡ out_of (onto s.line (x ∷ [])) xs = sym more ∙ ap (λ os. os ++ out_of (onto s.line (x ∷ [])) xs) none in
           let made' : Made b (later b s (x ∷ [])) xs gs =
-          made ∙ ap (λ os. cond b (made_along selects s.arguments (s.taken - length s.line.items) os) []) outs ∙ ap (λ n. cond b (made_along selects s.arguments n (out_of (onto s.line (x ∷ [])) xs)) []) place in
+          made ∙ ap (λ os. cond b (made_along selects s.arguments (s.core.taken - length s.line.items) os) []) outs ∙ ap (λ n. cond b (made_along selects s.arguments n (out_of (onto s.line (x ∷ [])) xs)) []) place in
           then [] gs (inside b s (length xs) x a sample h) made' fit
 
       falls : (gs : List Samples) → s.line.capacity ≤ length s.line.items → Made b s (x ∷ xs) gs → All (IsSamples w32 s.line.channels) gs → Fed (selected_acts selects) s (x ∷ xs) gs (later b s (x ∷ xs)) × IsSelectedState selects (later b s (x ∷ xs))
-      falls gs h made fit = go b refl gs (made ∙ ap (λ os. cond b (made_along selects s.arguments (s.taken - length s.line.items) os) []) outs) fit
+      falls gs h made fit = go b refl gs (made ∙ ap (λ os. cond b (made_along selects s.arguments (s.core.taken - length s.line.items) os) []) outs) fit
         where
           oldest : (o : Samples) × (Some o ≡ fallen s.line.capacity s.line.items x) × (out_of s.line (x ∷ []) ≡ o ∷ [])
           oldest = out b s (length xs) x a sample h
@@ -255,22 +259,22 @@ module _ {M : Type 0} (selects : Selects M) where
           outs : out_of s.line (x ∷ xs) ≡ oldest.0 ∷ out_of (onto s.line (x ∷ [])) xs
           outs = sym more ∙ ap (λ os. os ++ out_of (onto s.line (x ∷ [])) xs) oldest.2
 
-          place : s.taken - length s.line.items + 1 ≡ s.taken + 1 - length (onto s.line (x ∷ [])).items
+          place : s.core.taken - length s.line.items + 1 ≡ s.core.taken + 1 - length (onto s.line (x ∷ [])).items
           place =
               let low = a.is.within in
               let w = a.is.line.within in
               let long = onto-long s.line (x ∷ []) in
               omega arith
 
-          go : (c : Bool) → c ≡ b → (hs : List Samples) → map plain hs ≡ cond c (made_along selects s.arguments (s.taken - length s.line.items) (oldest.0 ∷ out_of (onto s.line (x ∷ [])) xs)) [] → All (IsSamples w32 s.line.channels) hs
+          go : (c : Bool) → c ≡ b → (hs : List Samples) → map plain hs ≡ cond c (made_along selects s.arguments (s.core.taken - length s.line.items) (oldest.0 ∷ out_of (onto s.line (x ∷ [])) xs)) [] → All (IsSamples w32 s.line.channels) hs
               → Fed (selected_acts selects) s (x ∷ xs) hs (later b s (x ∷ xs)) × IsSelectedState selects (later b s (x ∷ xs))
           go false e hs m fit' =
               let empty : hs ≡ [] = no-frames hs [] m refl in
               then [] hs (left b s (length xs) x a sample h (sym e)) (rw (← e, empty) refl) fit'
           go true e [] m fit' = absurd (cc (m))
           go true e (g ∷ hs) m fit' =
-              let first : plain g ≡ selects.made s.arguments (determined_in selects s.arguments (s.taken - length s.line.items)) (s.taken - length s.line.items) oldest.0 = cc (m) in
-              let rest_unchanged : map plain hs ≡ made_along selects s.arguments (s.taken - length s.line.items + 1) (out_of (onto s.line (x ∷ [])) xs) = cc (m) in
+              let first : plain g ≡ selects.made s.arguments (determined_in selects s.arguments (s.core.taken - length s.line.items)) (s.core.taken - length s.line.items) oldest.0 = cc (m) in
+              let rest_unchanged : map plain hs ≡ made_along selects s.arguments (s.core.taken - length s.line.items + 1) (out_of (onto s.line (x ∷ [])) xs) = cc (m) in
               let made' : Made b (later b s (x ∷ [])) xs hs = rw (← e) (rest_unchanged ∙ ap (λ n. made_along selects s.arguments n (out_of (onto s.line (x ∷ [])) xs)) place) in
               then (g ∷ []) hs (full b s (length xs) x a sample h g (sym e) first (All-head (IsSamples w32 s.line.channels) g hs fit')) made' (All-tail (IsSamples w32 s.line.channels) g hs fit')
 
@@ -290,7 +294,7 @@ module _ {M : Type 0} (selects : Selects M) where
         → let xs = pieces s.line.channels n (take (n * selects.channels s.arguments) input) in
         line.items ≡ pushed_all s.line xs → line.capacity ≡ s.line.capacity → line.channels ≡ s.line.channels → All (IsSamples w32 s.line.channels) xs
         → k ≡ cond b (gone s.line n) 0 → pieces s.line.channels k fell ≡ take k (s.line.items ++ xs)
-        → map plain (pieces (selects.channels s.arguments) k made) ≡ made_along selects s.arguments (s.taken - length s.line.items) (pieces (selects.channels s.arguments) k (take (k * selects.channels s.arguments) fell))
+        → map plain (pieces (selects.channels s.arguments) k made) ≡ made_along selects s.arguments (s.core.taken - length s.line.items) (pieces (selects.channels s.arguments) k (take (k * selects.channels s.arguments) fell))
         → All (FitsSigned w32) made → length made ≡ k * selects.channels s.arguments → pieces (selects.channels s.arguments) k out ≡ pieces (selects.channels s.arguments) k made
         → Fed (selected_acts selects) s (pieces (selects.channels s.arguments) n input) (pieces (selects.channels s.arguments) k out) (passed s line n k) × IsSelectedState selects (passed s line n k)
     piece-passed b s n k line input fell made out a free cut items capacity channels samples number is gave fits long put =
@@ -302,29 +306,29 @@ module _ {M : Type 0} (selects : Selects M) where
         let front : xs ≡ pieces w n input = ap (λ c. pieces c n (take (n * w) input)) same ∙ pieces-take w n input free in
         let out-is : pieces w k (take (k * w) fell) ≡ cond b (out_of s.line xs) [] =
         pieces-take w k fell cut ∙ ap (λ c. pieces c k fell) (sym same) ∙ is ∙ chosen b k xs number many in
-        let all-made : map plain gs ≡ cond b (made_along selects s.arguments (s.taken - length s.line.items) (out_of s.line xs)) [] =
-        gave ∙ ap (made_along selects s.arguments (s.taken - length s.line.items)) out-is ∙ inner b (out_of s.line xs) in
+        let all-made : map plain gs ≡ cond b (made_along selects s.arguments (s.core.taken - length s.line.items) (out_of s.line xs)) [] =
+        gave ∙ ap (made_along selects s.arguments (s.core.taken - length s.line.items)) out-is ∙ inner b (out_of s.line xs) in
         let fit : All (IsSamples w32 s.line.channels) gs = rw same (frames-samples w32 w k made long fits) in
         let all = frame_run-fed b xs gs s (rw many a) samples all-made fit in
         let onto-is : line ≡ onto s.line xs = same-line line (onto s.line xs) items capacity channels in
-        let empty : ◌≡◌ {A = SelectedState M} (passed s line n k) (record s { pending = None; line = line; taken = s.taken + n; given = s.given + k }) = rw a.empty refl in
-        let last : passed s line n k ≡ later b s xs = empty ∙ same-state s line (onto s.line xs) (s.taken + n) (s.taken + length xs) (s.given + k) (cond b (s.given + gone s.line (length xs)) s.given) onto-is (ap (λ m. s.taken + m) (sym many)) (counts b k xs number many) in
+        let empty : passed s line n k ≡ cleared s line (s.core.taken + n) (s.core.given + k) = rw (a.empty, a.is.core.no_pending_clips) refl in
+        let last : passed s line n k ≡ later b s xs = empty ∙ same-state s line (onto s.line xs) (s.core.taken + n) (s.core.taken + length xs) (s.core.given + k) (cond b (s.core.given + gone s.line (length xs)) s.core.given) onto-is (ap (λ m. s.core.taken + m) (sym many)) (counts b k xs number many) in
         rw (put, ← front, last) all
       where
         chosen : (c : Bool) (k' : ℕ) (ys : List Samples) → k' ≡ cond c (gone s.line n) 0 → length ys ≡ n → take k' (s.line.items ++ ys) ≡ cond c (out_of s.line ys) []
         chosen true k' ys e m = rw (e, m) refl
         chosen false k' ys e m = rw e refl
 
-        inner : (c : Bool) (os : List Samples) → made_along selects s.arguments (s.taken - length s.line.items) (cond c os []) ≡ cond c (made_along selects s.arguments (s.taken - length s.line.items) os) []
+        inner : (c : Bool) (os : List Samples) → made_along selects s.arguments (s.core.taken - length s.line.items) (cond c os []) ≡ cond c (made_along selects s.arguments (s.core.taken - length s.line.items) os) []
         inner true os = refl
         inner false os = refl
 
-        counts : (c : Bool) (k' : ℕ) (ys : List Samples) → k' ≡ cond c (gone s.line n) 0 → length ys ≡ n → s.given + k' ≡ cond c (s.given + gone s.line (length ys)) s.given
+        counts : (c : Bool) (k' : ℕ) (ys : List Samples) → k' ≡ cond c (gone s.line n) 0 → length ys ≡ n → s.core.given + k' ≡ cond c (s.core.given + gone s.line (length ys)) s.core.given
         counts true k' ys e m = rw (e, m) refl
-        counts false k' ys e m = rw e (add-zero s.given)
+        counts false k' ys e m = rw e (add-zero s.core.given)
 
     -- each of so many frames was taken while the output had room for one more, where it has room for those that fall out
-    pub took-with-free : (s : SelectedState M) (n free : ℕ) → IsSelectedState selects s → s.pending ≡ None → s.ended ≡ false → 0 < selects.channels s.arguments → selects.channels s.arguments ≤ free
+    pub took-with-free : (s : SelectedState M) (n free : ℕ) → IsSelectedState selects s → s.core.pending ≡ None → s.core.ended ≡ false → 0 < selects.channels s.arguments → selects.channels s.arguments ≤ free
         → n ≤ free / selects.channels s.arguments + (s.line.capacity - length s.line.items) → TookWithinSpace (selected_acts selects) s n free
     took-with-free s n free is empty running wide one fits =
         let w : ℕ = selects.channels s.arguments in
@@ -333,7 +337,7 @@ module _ {M : Type 0} (selects : Selects M) where
         let gave = due-given selects s is running (ap is_none empty) in
         let some : 1 ≤ free / w = le-div 1 free w wide (omega arith) in
         let whole : free / w - 1 + 1 ≡ free / w = omega arith in
-        free-maximum (selected_acts selects) s n (free / w - 1) free (λ i bound. omega (arith, due-maximum selects ok s.arguments s.taken i, bound, fits, some, gave, full, cap)) (rw whole (div-mul-le_self free w))
+        free-maximum (selected_acts selects) s n (free / w - 1) free (λ i bound. omega (arith, due-maximum selects ok s.arguments s.core.taken i, bound, fits, some, gave, full, cap)) (rw whole (div-mul-le_self free w))
 
 -- the samples of frames that fell out of a line fit
 pub fell-fit : (channels k : ℕ) (os : List Samples) (fell : List ℤ) → k * channels ≤ length fell → pieces channels k fell ≡ take k os → All (IsSamples w32 channels) os → All (FitsSigned w32) (take (k * channels) fell)

@@ -8,7 +8,9 @@ use mathlib.Core.Path.{ap₂}
 use Rattle.fx_frame_base.specs.Frame.{Samples}
 use Rattle.fx_frame_base.specs.PendingFrame.{IsPending}
 use Rattle.fx_frame_line.specs.Line.{Frames, IsLine}
-use Rattle.fx_frame_base.specs.Stage.{Gave, Given, Took, coming}
+use Rattle.fx_frame_base.specs.Stage.{Given, Took}
+use Rattle.fx_frame_base.specs.StageCore.{pending_frames}
+use Rattle.fx_frame_base.specs.declared.stage_core.StageCore.{StageCore}
 use Rattle.fx_frame_base.specs.Given.{plain}
 use Rattle.fx_frame_base.proofs.Flags.{flag-le}
 use Rattle.fx_cut.specs.Selected.{AreDetermined, IsSelectedState, Selects, SelectedState, given_before, determined_in, selected_acts, selected_after, selected_from, selected_here}
@@ -17,8 +19,8 @@ use Rattle.fx_cut.proofs.PendingLemmas.{at_most_one, empty-pending}
 use Rattle.fx_cut.specs.Ranges.{count_same, kept_next}
 
 -- a state by its parts
-abbrev pub state : {M : Type 0} → M → Option Samples → Frames ℤ → ℕ → ℕ → Bool → SelectedState M
-state m pending line taken given ended = record { arguments = m; pending = pending; line = line; taken = taken; given = given; ended = ended }
+abbrev pub state : {M : Type 0} → StageCore → Frames ℤ → M → SelectedState M
+state core line m = record { core = core; line = line; arguments = m }
 
 module _ {M : Type 0} (selects : Selects M) where
   -- what is still to be given where the line holds the frames from place n on, and these frames come
@@ -69,60 +71,38 @@ module _ {M : Type 0} (selects : Selects M) where
       ∙ ap (given_before selects m frames) (sym next)
 
   -- after the end, the next frame that is given is in hand
-  pub IsSelect-over : (s : SelectedState M) (line : Frames ℤ) (pending : Option Samples) (given : ℕ) → IsSelectedState selects s → given + length s.line.items ≤ s.taken
-      → given ≡ given_before selects s.arguments s.taken (s.taken - length s.line.items)
-      → given_before selects s.arguments s.taken (s.taken - length s.line.items) + length (option_to_list pending) ≡ given_before selects s.arguments s.taken (s.taken - length line.items)
+  pub IsSelect-over : (s : SelectedState M) (line : Frames ℤ) (pending : Option Samples) (given : ℕ) → IsSelectedState selects s → given + length s.line.items ≤ s.core.taken
+      → given ≡ given_before selects s.arguments s.core.taken (s.core.taken - length s.line.items)
+      → given_before selects s.arguments s.core.taken (s.core.taken - length s.line.items) + length (option_to_list pending) ≡ given_before selects s.arguments s.core.taken (s.core.taken - length line.items)
       → (pending ≡ None → line.items ≡ []) → length (option_to_list pending) + length line.items ≤ length s.line.items → IsPending s.line.channels pending
       → IsLine w32 line → line.capacity ≡ s.line.capacity → line.channels ≡ s.line.channels
-      → IsSelectedState selects (record s { line = line; pending = pending; given = given; ended = true })
+      → IsSelectedState selects (record s { line = line; core = record s.core { pending = pending; pending_clips = 0; given = given; ended = true } })
   IsSelect-over s line pending given is low before kept empty fewer fits lined capacity channels = record {
+    core = record { bound = is.core.bound; no_clips = is.core.no_clips; no_pending_clips = refl; fits = rw is.channels at fits };
     line = lined;
     channels = channels ∙ is.channels;
     capacity = capacity ∙ is.capacity;
-    bound = is.bound;
     within = omega arith;
     full = λ r. absurd (false≢true (sym r));
     counted = λ r. absurd (false≢true (sym r));
     over = λ e none. empty none;
     gone = λ e. ap (λ n. n + length (option_to_list pending)) before ∙ kept;
-    fits = rw is.channels at fits;
   }
 
   -- before the end, where it has no frame to give it has given what is due
-  pub due-given : (s : SelectedState M) → IsSelectedState selects s → s.ended ≡ false → is_none s.pending ≡ true → s.given ≡ selects.due s.arguments s.taken
+  pub due-given : (s : SelectedState M) → IsSelectedState selects s → s.core.ended ≡ false → is_none s.core.pending ≡ true → s.core.given ≡ selects.due s.arguments s.core.taken
   due-given s is running dry =
-      let empty : length (option_to_list s.pending) ≡ 0 = ap length (empty-pending s.pending dry) in
+      let empty : length (pending_frames s.core) ≡ 0 = ap length (empty-pending s.core.pending dry) in
       let counted = is.counted running in
       omega (arith, counted, empty)
 
-  -- ---- a frame is given
+  -- the state after a frame came and the pending frame stayed as it was
+  abbrev pub stayed : SelectedState M → Frames ℤ → SelectedState M
+  stayed s line = record s { line = line; core = record s.core { taken = s.core.taken + 1 } }
 
-  first-last : (m : M) (taken : ℕ) (items items' : List Samples) (old new : Option Samples) (frame : Samples) (ended : Bool) (z : List Samples) → old ≡ Some frame → ended ≡ true
-      → selected_after selects m taken items [] ≡ map plain (option_to_list new) ++ selected_after selects m taken items' []
-      → map plain (option_to_list old) ++ selected_after selects m taken items (coming ended z) ≡ plain frame ∷ (map plain (option_to_list new) ++ selected_after selects m taken items' (coming ended z))
-  first-last m taken items items' old new frame false z e h rest = absurd (false≢true h)
-  first-last m taken items items' old new frame true z e h rest =
-      ap (λ o. map plain (option_to_list o) ++ selected_after selects m taken items []) e
-      ∙ ap (λ l. plain frame ∷ l) rest
-
-  pub Gave-last : (s : SelectedState M) (pending : Option Samples) (line : Frames ℤ) (frame : Samples) → IsSelectedState selects s → s.pending ≡ Some frame → s.ended ≡ true
-      → selected_after selects s.arguments s.taken s.line.items [] ≡ map plain (option_to_list pending) ++ selected_after selects s.arguments s.taken line.items []
-      → Gave (selected_acts selects) s (record s { pending = pending; line = line; given = s.given + 1 }) frame
-  Gave-last s pending line frame is e ended rest =
-      let one : length (option_to_list s.pending) ≡ 1 = ap (λ h. length (option_to_list h)) e in
-      let w = is.within in
-      record {
-        was_wet = ap is_none e;
-        gives = record { clips = 0; first = λ z. first-last s.arguments s.taken s.line.items line.items s.pending pending frame s.ended z e ended rest; counted = refl };
-        channels = (is.fits frame e).1;
-        due = λ running. absurd (cc (running, ended));
-        maximum = omega arith;
-        recipe_stays = refl;
-      }
-
-  -- the state after a frame came
+  -- the state after a frame came, with this pending frame or none
   abbrev pub came : SelectedState M → Frames ℤ → Option Samples → SelectedState M
-  came s line pending = record s { line = line; pending = pending; taken = s.taken + 1 }
+  came s line pending = record s { line = line; core = record s.core { pending = pending; pending_clips = 0; taken = s.core.taken + 1 } }
 
   -- ---- where what is given is settled behind the reach
 
@@ -189,16 +169,16 @@ module _ {M : Type 0} (selects : Selects M) where
         ]
 
     -- where the end comes, all that is due was given
-    pub given-due : (s : SelectedState M) → IsSelectedState selects s → s.ended ≡ false → s.given + length (option_to_list s.pending) ≡ given_before selects s.arguments s.taken (s.taken - length s.line.items)
+    pub given-due : (s : SelectedState M) → IsSelectedState selects s → s.core.ended ≡ false → s.core.given + length (pending_frames s.core) ≡ given_before selects s.arguments s.core.taken (s.core.taken - length s.line.items)
     given-due s is running =
         let f = is.full running in
         let cap = is.capacity in
         let m : M = s.arguments in
-        let same : s.taken - length s.line.items ≡ s.taken - selects.reach m = omega arith in
+        let same : s.core.taken - length s.line.items ≡ s.core.taken - selects.reach m = omega arith in
         is.counted running
-        ∙ ok.due m s.taken
-        ∙ count_same (λ n. selects.gives m (determined_in selects m n) n) (selects.gives m s.taken) 0 (s.taken - selects.reach m) (λ i low high. sym (ok.gives m s.taken i (omega arith)))
-        ∙ ap (given_before selects m s.taken) (sym same)
+        ∙ ok.due m s.core.taken
+        ∙ count_same (λ n. selects.gives m (determined_in selects m n) n) (selects.gives m s.core.taken) 0 (s.core.taken - selects.reach m) (λ i low high. sym (ok.gives m s.core.taken i (omega arith)))
+        ∙ ap (given_before selects m s.core.taken) (sym same)
 
     -- ---- nothing more
 
@@ -208,50 +188,50 @@ module _ {M : Type 0} (selects : Selects M) where
         ap (λ b. cond b (selects.made m frames n f ∷ []) [] ++ selected_from selects m frames (n + 1) x) (h n (omega arith))
         ∙ none_from m frames (n + 1) x (λ place l. h place (omega arith))
 
-    pub spent-rest : (s : SelectedState M) (maximum : ℕ) → IsSelectedState selects s → s.pending ≡ None → selects.enough s.arguments ≡ Some maximum → maximum ≤ s.taken → (z : List Samples) → (selected_acts selects).rest s z ≡ []
+    pub spent-rest : (s : SelectedState M) (maximum : ℕ) → IsSelectedState selects s → s.core.pending ≡ None → selects.enough s.arguments ≡ Some maximum → maximum ≤ s.core.taken → (z : List Samples) → (selected_acts selects).rest s z ≡ []
     spent-rest s maximum is none enough late z =
         let law = ok.enough s.arguments maximum enough in
         let cap = is.capacity in
         let free = is.line.within in
         let zero-reach : selects.reach s.arguments ≡ 0 = law.0 in
         let empty : s.line.items ≡ [] = nil_from_length s.line.items (omega (arith, zero-reach)) in
-        rw (none, empty) (none_from s.arguments _ (s.taken - 0) _ (λ place l. law.1 _ place (omega arith)))
+        rw (none, empty) (none_from s.arguments _ (s.core.taken - 0) _ (λ place l. law.1 _ place (omega arith)))
 
     -- ---- a frame comes
 
-    module _ (s : SelectedState M) (frame : Samples) (is : IsSelectedState selects s) (dry : is_none s.pending ≡ true) (running : s.ended ≡ false) where
-      held : length s.line.items ≤ s.taken
+    module _ (s : SelectedState M) (frame : Samples) (is : IsSelectedState selects s) (dry : is_none s.core.pending ≡ true) (running : s.core.ended ≡ false) where
+      held : length s.line.items ≤ s.core.taken
       held = let h = is.within in omega arith
 
       -- it stays in the line
-      pub Took-inside : (line : Frames ℤ) → None ≡ fallen s.line.capacity s.line.items frame → line.items ≡ stays s.line.capacity s.line.items frame → Took (selected_acts selects) s (came s line s.pending) frame
+      pub Took-inside : (line : Frames ℤ) → None ≡ fallen s.line.capacity s.line.items frame → line.items ≡ stays s.line.capacity s.line.items frame → Took (selected_acts selects) s (stayed s line) frame
       Took-inside line e items =
           let l = no_fall _ _ _ e in
           let i : line.items ≡ s.line.items ++ frame ∷ [] = items ∙ stays-free _ _ _ l in
-          let h : length s.line.items ≤ s.taken = held in
-          let n : s.taken + 1 - length (s.line.items ++ frame ∷ []) ≡ s.taken - length s.line.items = omega (arith, length-append s.line.items (frame ∷ [])) in
+          let h : length s.line.items ≤ s.core.taken = held in
+          let n : s.core.taken + 1 - length (s.line.items ++ frame ∷ []) ≡ s.core.taken - length s.line.items = omega (arith, length-append s.line.items (frame ∷ [])) in
           record {
-            rest = λ z. rw (running, i, n) (ap (λ r. map plain (option_to_list s.pending) ++ r) (sym (rest-taken s.arguments (s.taken - length s.line.items) s.line.items frame z)));
+            rest = λ z. rw (running, i, n) (ap (λ r. map plain (pending_frames s.core) ++ r) (sym (rest-taken s.arguments (s.core.taken - length s.line.items) s.line.items frame z)));
             counted = refl;
             recipe_stays = refl;
           }
 
       -- the oldest falls out
       pub Took-fallen : (line : Frames ℤ) (o : Samples) (pending : Option Samples) → Some o ≡ fallen s.line.capacity s.line.items frame → line.items ≡ stays s.line.capacity s.line.items frame
-          → map plain (option_to_list pending) ≡ selected_here selects s.arguments (determined_in selects s.arguments (s.taken - length s.line.items)) (s.taken - length s.line.items) o → Took (selected_acts selects) s (came s line pending) frame
+          → map plain (option_to_list pending) ≡ selected_here selects s.arguments (determined_in selects s.arguments (s.core.taken - length s.line.items)) (s.core.taken - length s.line.items) o → Took (selected_acts selects) s (came s line pending) frame
       Took-fallen line o pending e items kept =
           let m : M = s.arguments in
           let within : length s.line.items ≤ s.line.capacity = is.line.within in
           let split : s.line.items ++ frame ∷ [] ≡ o ∷ line.items = oldest-first _ _ _ _ e within ∙ ap (λ l. o ∷ l) (sym items) in
           let full = is_full _ _ _ _ e in
           let cap = is.capacity in
-          let h : length s.line.items ≤ s.taken = held in
+          let h : length s.line.items ≤ s.core.taken = held in
           let long : length line.items ≡ length s.line.items = omega (arith, ap length split, length-append s.line.items (frame ∷ [])) in
           let ends : selects.reach m ≤ length line.items = omega arith in
-          let n : ℕ = s.taken - length s.line.items in
-          let next : s.taken + 1 - length line.items ≡ n + 1 = omega arith in
+          let n : ℕ = s.core.taken - length s.line.items in
+          let next : s.core.taken + 1 - length line.items ≡ n + 1 = omega arith in
           record {
-            rest = λ z. rw (running, empty-pending s.pending dry, kept, next) (sym (
+            rest = λ z. rw (running, empty-pending s.core.pending dry, kept, next) (sym (
                 rest-taken m n s.line.items frame z
                 ∙ ap (λ l. rest_at m n l z) split
                 ∙ rest-let-go m n o line.items z ends));
@@ -260,7 +240,7 @@ module _ {M : Type 0} (selects : Selects M) where
           }
 
       pub IsSelect-inside : (line : Frames ℤ) → None ≡ fallen s.line.capacity s.line.items frame → line.items ≡ stays s.line.capacity s.line.items frame
-          → IsLine w32 line → line.capacity ≡ s.line.capacity → line.channels ≡ s.line.channels → s.taken < 2 ^ 56 → IsSelectedState selects (came s line s.pending)
+          → IsLine w32 line → line.capacity ≡ s.line.capacity → line.channels ≡ s.line.channels → s.core.taken < 2 ^ 56 → IsSelectedState selects (stayed s line)
       IsSelect-inside line e items lined capacity channels below =
           let l = no_fall _ _ _ e in
           let i : line.items ≡ s.line.items ++ frame ∷ [] = items ∙ stays-free _ _ _ l in
@@ -268,23 +248,22 @@ module _ {M : Type 0} (selects : Selects M) where
           let w = is.within in
           let f = is.full running in
           let cap = is.capacity in
-          let early = due-early s.arguments s.taken (omega arith) in
+          let early = due-early s.arguments s.core.taken (omega arith) in
           record {
+            core = record { bound = omega arith; no_clips = is.core.no_clips; no_pending_clips = is.core.no_pending_clips; fits = is.core.fits };
             line = lined;
             channels = channels ∙ is.channels;
             capacity = capacity ∙ is.capacity;
-            bound = omega arith;
             within = omega arith;
             full = λ r. rw capacity (omega arith);
             counted = λ r. is.counted running ∙ sym early;
             over = λ r. absurd (cc (r, running));
             gone = λ r. absurd (cc (r, running));
-            fits = is.fits;
           }
 
       pub IsSelect-fallen : (line : Frames ℤ) (o : Samples) (pending : Option Samples) → Some o ≡ fallen s.line.capacity s.line.items frame → line.items ≡ stays s.line.capacity s.line.items frame
-          → IsLine w32 line → line.capacity ≡ s.line.capacity → line.channels ≡ s.line.channels → s.taken < 2 ^ 56
-          → map plain (option_to_list pending) ≡ selected_here selects s.arguments (determined_in selects s.arguments (s.taken - length s.line.items)) (s.taken - length s.line.items) o
+          → IsLine w32 line → line.capacity ≡ s.line.capacity → line.channels ≡ s.line.channels → s.core.taken < 2 ^ 56
+          → map plain (option_to_list pending) ≡ selected_here selects s.arguments (determined_in selects s.arguments (s.core.taken - length s.line.items)) (s.core.taken - length s.line.items) o
           → IsPending (selects.channels s.arguments) pending → IsSelectedState selects (came s line pending)
       IsSelect-fallen line o pending e items lined capacity channels below kept fits =
           let m : M = s.arguments in
@@ -295,23 +274,22 @@ module _ {M : Type 0} (selects : Selects M) where
           let w = is.within in
           let f = is.full running in
           let cap = is.capacity in
-          let n : ℕ = s.taken - selects.reach m in
-          let same : s.taken - length s.line.items ≡ n = omega arith in
-          let empty : length (option_to_list s.pending) ≡ 0 = ap length (empty-pending s.pending dry) in
+          let n : ℕ = s.core.taken - selects.reach m in
+          let same : s.core.taken - length s.line.items ≡ n = omega arith in
+          let empty : length (pending_frames s.core) ≡ 0 = ap length (empty-pending s.core.pending dry) in
           let one : length (option_to_list pending) ≤ 1 = at_most_one pending in
           let counted = is.counted running in
-          let next = due-next m s.taken (omega arith) in
+          let next = due-next m s.core.taken (omega arith) in
           let given : length (option_to_list pending) ≡ cond (selects.gives m (determined_in selects m n) n) 1 0 =
           sym (length-map (option_to_list pending) plain) ∙ ap length (rw same at kept) ∙ here-count m (determined_in selects m n) n o in
           record {
+            core = record { bound = omega arith; no_clips = is.core.no_clips; no_pending_clips = refl; fits = fits };
             line = lined;
             channels = channels ∙ is.channels;
             capacity = capacity ∙ is.capacity;
-            bound = omega arith;
             within = omega arith;
             full = λ r. rw capacity (omega arith);
             counted = λ r. omega (arith, next, given, counted, empty);
             over = λ r. absurd (cc (r, running));
             gone = λ r. absurd (cc (r, running));
-            fits = fits;
           }

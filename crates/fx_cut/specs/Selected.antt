@@ -6,8 +6,9 @@ use Rattle.std.specs.Int.{w32}
 use Rattle.fx_frame_base.specs.Frame.{Samples}
 use Rattle.fx_frame_base.specs.Lists.{pieces}
 use Rattle.fx_frame_line.specs.Line.{Frames, IsLine}
-use Rattle.fx_frame_base.specs.PendingFrame.{IsPending}
 use Rattle.fx_frame_base.specs.Stage.{Acts, Given, StageKind, coming, max_taken}
+use Rattle.fx_frame_base.specs.StageCore.{IsUnclippedCore, core_counts, pending_frames}
+use Rattle.fx_frame_base.specs.declared.stage_core.StageCore.{StageCore}
 use Rattle.fx_frame_base.specs.Given.{plain}
 
 -- what effects of such arguments give of the frames of a sound
@@ -32,13 +33,9 @@ GaveOldest line count old new = pieces line.channels count new ≡ take count (l
 
 -- what a stage with such arguments stores
 pub record SelectedState (M : Type 0) : Type 0 where
-  pub arguments : M
-  -- the frame to be given
-  pub pending : Option Samples
+  pub core : StageCore
   pub line : Frames ℤ
-  pub taken : ℕ
-  pub given : ℕ
-  pub ended : Bool
+  pub arguments : M
 
 module _ {M : Type 0} (selects : Selects M) where
   -- the shortest sound in which it is determined before the end what is given of the frame at this place
@@ -87,17 +84,19 @@ module _ {M : Type 0} (selects : Selects M) where
 
   -- the invariant of a stage
   pub record IsSelectedState (s : SelectedState M) : Type 0 where
+    -- what holds of each core of a stage that clips no sample
+    pub core : IsUnclippedCore (selects.channels s.arguments) s.core
     pub line : IsLine w32 s.line
     pub channels : s.line.channels ≡ selects.channels s.arguments
     pub capacity : s.line.capacity ≡ selects.reach s.arguments
-    pub bound : s.taken ≤ max_taken
-    pub within : s.given + length (option_to_list s.pending) + length s.line.items ≤ s.taken
-    pub full : s.ended ≡ false → length s.line.items ≡ min s.taken s.line.capacity
-    pub counted : s.ended ≡ false → s.given + length (option_to_list s.pending) ≡ selects.due s.arguments s.taken
-    pub over : s.ended ≡ true → s.pending ≡ None → s.line.items ≡ []
+    pub within : s.core.given + length (pending_frames s.core) + length s.line.items ≤ s.core.taken
+    pub full : s.core.ended ≡ false → length s.line.items ≡ min s.core.taken s.line.capacity
+    pub counted : s.core.ended ≡ false
+        → s.core.given + length (pending_frames s.core) ≡ selects.due s.arguments s.core.taken
+    pub over : s.core.ended ≡ true → s.core.pending ≡ None → s.line.items ≡ []
     -- after the end, those given and pending are those that are given before the frames of the line
-    pub gone : s.ended ≡ true → s.given + length (option_to_list s.pending) ≡ given_before s.arguments s.taken (s.taken - length s.line.items)
-    pub fits : IsPending (selects.channels s.arguments) s.pending
+    pub gone : s.core.ended ≡ true → s.core.given + length (pending_frames s.core)
+        ≡ given_before s.arguments s.core.taken (s.core.taken - length s.line.items)
 
   -- the invariant of its counts: frames taken and given, in the line and pending
   pub record IsSelectCount (m : M) (taken given lined pending_count : ℕ) (ended : Bool) : Type 0 where
@@ -116,10 +115,11 @@ module _ {M : Type 0} (selects : Selects M) where
     recipe = λ s. s.arguments;
     kind_of = selected_kind;
     meaning = selects.meaning;
-    rest = λ s z. map plain (option_to_list s.pending) ++ selected_after s.arguments s.taken s.line.items (coming s.ended z);
-    counts = λ s. record { taken = s.taken; given = s.given; clips = 0; ended = s.ended };
-    dry = λ s. is_none s.pending;
-    stored = λ s. s.line.items ++ option_to_list s.pending;
+    rest = λ s z. map plain (pending_frames s.core)
+        ++ selected_after s.arguments s.core.taken s.line.items (coming s.core.ended z);
+    counts = λ s. core_counts s.core;
+    dry = λ s. is_none s.core.pending;
+    stored = λ s. s.line.items ++ pending_frames s.core;
     capacity = λ s. s.line.capacity;
-    state_counters = λ s. record { first = length (option_to_list s.pending); second = 0; third = 0 };
+    state_counters = λ s. record { first = length (pending_frames s.core); second = 0; third = 0 };
   }

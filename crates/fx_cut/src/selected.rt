@@ -17,6 +17,7 @@ use fx_frame::frozen::{stored_in, thawed_line_and_pending};
 use fx_frame::{
     Counters, Feeds, Forecast, Frame, Line, Passed, Passing, Stage, ThawFault, WideFrame,
 };
+use fx_frame_base::StageCore;
 use fx_frame_base::feed::see_samples;
 use fx_frame_base::pipeline::{PassesEarly, PassesPipeline, PassesWhile, pass_in_place};
 use fx_frame_base::stage::MAX_TAKEN;
@@ -113,6 +114,14 @@ fn given_of(is_given: bool, fallen: usize) -> usize
     if is_given { fallen } else { 0 }
 }
 
+/// How many frames a stage of this core took.
+#[inline(always)]
+fn taken_of(core: &StageCore) -> u64
+    ensures { result ≡ core.now.taken }
+{
+    core.counter_values().taken
+}
+
 /// Whether a stage of reach `reach`, with `lined` frames in its line and `pending_count` pending, has these counts. Before the
 /// end it has given what is due, after the end those that are given before the line, and it has a pending frame unless its line
 /// is empty.
@@ -170,12 +179,9 @@ fn next_selected<S: Selection>(line: &mut Line, selection: &S, frames: u64) -> O
 /// as many as its reach has. No sample is clipped.
 #[derive(Drop)]
 pub struct Selected<S: Selection + Drop> {
-    pending: Option<Frame>,
+    core: StageCore,
     selection: S,
     line: Line,
-    taken: u64,
-    given: u64,
-    ended: bool,
 }
 
 impl<S: Selection + Drop> Model for Selected<S> {
@@ -183,9 +189,10 @@ impl<S: Selection + Drop> Model for Selected<S> {
 
     ghost Value = { SelectedState S };
 
-    ghost view = { λ s. record { arguments = s.selection; pending = s.pending; line = s.line; taken = s.taken; given = s.given; ended = s.ended } };
+    ghost view = { λ s. record { core = s.core; line = s.line; arguments = s.selection } };
 
-    ghost invariant = { λ s. IsSelectedState S.selects (record { arguments = s.selection; pending = s.pending; line = s.line; taken = s.taken; given = s.given; ended = s.ended }) };
+    ghost invariant = { λ s. IsSelectedState S.selects
+        (record { core = s.core; line = s.line; arguments = s.selection }) };
 }
 
 impl<S: Selection + Drop> Selected<S> {
@@ -200,12 +207,9 @@ impl<S: Selection + Drop> Selected<S> {
     {
         let line = Line::new(alloc, selection.channels(), reach as usize)?;
         Ok(Selected {
-            pending: None,
+            core: StageCore::new(),
             selection,
             line,
-            taken: 0,
-            given: 0,
-            ended: false,
         })
     }
 
@@ -255,13 +259,16 @@ impl<S: Selection + Drop> Selected<S> {
             frames,
             pending_count,
         )?;
-        Ok(Selected {
-            pending,
-            selection,
-            line,
+        let counters = Counters {
             taken,
             given,
+            clips: 0,
             ended: ended == 1,
+        };
+        Ok(Selected {
+            core: StageCore::restored(pending, 0, counters),
+            selection,
+            line,
         })
     }
 }
@@ -278,57 +285,53 @@ impl<S: Selection + Drop> Stage for Selected<S> {
     ghost rises = { λ r m n h. h };
 
     fn take(&mut self, frame: Frame) {
-        let place = self.taken - self.line.len() as u64;
-        self.taken += 1;
+        let taken = taken_of(&self.core);
+        let place = taken - self.line.len() as u64;
+        self.core.take();
         let fallen = self.line.push(frame);
         let _held = self.line.len();
         let Some(oldest) = fallen else {
             return;
         };
-        self.pending = self.selection.select(oldest, place);
+        self.core.set_pending(self.selection.select(oldest, place));
     }
 
     fn end(&mut self) {
-        self.ended = true;
-        self.pending = next_selected(&mut self.line, &self.selection, self.taken);
+        let frames = taken_of(&self.core);
+        self.core.end();
+        let next = next_selected(&mut self.line, &self.selection, frames);
+        self.core.set_pending(next);
     }
 
     fn give(&mut self) -> Option<Frame> {
-        let Some(frame) = self.pending else {
-            return None;
-        };
-        self.given += 1;
-        if !self.ended {
-            self.pending = None;
+        let frame = self.core.give()?;
+        if !self.core.is_ended() {
             return Some(frame);
         }
-        self.pending = next_selected(&mut self.line, &self.selection, self.taken);
+        let frames = taken_of(&self.core);
+        let next = next_selected(&mut self.line, &self.selection, frames);
+        self.core.set_pending(next);
         Some(frame)
     }
 
     fn is_dry(&self) -> bool {
-        self.pending.is_none()
+        !self.core.is_pending()
     }
 
     #[inline(always)]
     fn counter_values(&self) -> Counters {
-        Counters {
-            taken: self.taken,
-            given: self.given,
-            clips: 0,
-            ended: self.ended,
-        }
+        self.core.counter_values()
     }
 
     fn is_spent(&self) -> bool {
         let Some(enough) = self.selection.enough() else {
             return false;
         };
-        self.pending.is_none() && enough <= self.taken
+        !self.core.is_pending() && enough <= taken_of(&self.core)
     }
 
     fn held(&self) -> u64 {
-        self.line.len() as u64 + u64::from(self.pending.is_some())
+        self.line.len() as u64 + u64::from(self.core.is_pending())
     }
 
     fn hold(&self) -> u64 {
@@ -344,11 +347,11 @@ impl<S: Selection + Drop> Stage for Selected<S> {
     }
 
     fn state_counters(&self) -> [u64; 3] {
-        [u64::from(self.pending.is_some()), 0, 0]
+        [u64::from(self.core.is_pending()), 0, 0]
     }
 
     fn stored(&self, j: usize) -> WideFrame {
-        stored_in(&self.line, self.pending, j)
+        stored_in(&self.line, self.core.pending(), j)
     }
 }
 
@@ -356,17 +359,18 @@ impl<S: Selection + Drop> PassesMany for Selected<S> {
     /// Passes the frames up to those that push other frames out of the line than the first: all of those are given, or none.
     fn pass_many(&mut self, input: &[i32], output: &mut [i32]) -> Passed {
         let channels = self.selection.channels();
-        if self.pending.is_some() || self.ended || output.len() < channels {
+        if self.core.is_pending() || self.core.is_ended() || output.len() < channels {
             return Passed { taken: 0, given: 0 };
         }
         let lined = self.line.len();
         let free = self.line.capacity() - lined;
-        let place = self.taken - lined as u64;
+        let taken = taken_of(&self.core);
+        let place = taken - lined as u64;
         let frame_run = self.selection.frame_run_from(place);
         let ahead = frame_run
             .frames
             .saturating_add(free as u64)
-            .min(wanted(self.selection.enough(), self.taken));
+            .min(wanted(self.selection.enough(), taken));
         let maximum = (input.len() / channels).min(output.len() / channels + free);
         let count = ahead.min(maximum as u64) as usize;
         let given = given_of(frame_run.is_given, count.saturating_sub(free));
@@ -376,8 +380,8 @@ impl<S: Selection + Drop> PassesMany for Selected<S> {
         let made = &mut output[..given * channels];
         self.selection.select_many(made, channels, given, place);
         let _held = self.line.len();
-        self.taken += count as u64;
-        self.given += given as u64;
+        self.core.take_many(count as u64);
+        self.core.give_many(given as u64);
         Passed {
             taken: count,
             given,
@@ -392,8 +396,8 @@ impl<S: Selection + Drop> Feeds for Selected<S> {
 
     #[inline(always)]
     fn pass_samples(&mut self, samples: &mut [i32]) -> Passing {
-        let place = self.taken - self.line.len() as u64;
-        self.taken += 1;
+        let place = taken_of(&self.core) - self.line.len() as u64;
+        self.core.take();
         let is_out = push_over(&mut self.line, samples);
         let _held = self.line.len();
         if !is_out {
@@ -402,28 +406,28 @@ impl<S: Selection + Drop> Feeds for Selected<S> {
         if !self.selection.select_over(samples, place) {
             return Passing::Kept;
         }
-        self.given += 1;
+        self.core.give_made(0);
         Passing::Through
     }
 
     /// As many are due as come, so the line has no space for one more, and each frame that falls out of it is given.
     fn pass_frames(&mut self, count: usize, samples: &mut [i32]) {
         let channels = self.selection.channels();
-        let place = self.taken - self.line.len() as u64;
+        let place = taken_of(&self.core) - self.line.len() as u64;
         see_samples(samples);
         exchange_full(&mut self.line, channels, samples, count);
         see_samples(samples);
         self.selection.select_many(samples, channels, count, place);
         let _held = self.line.len();
         let passed = count as u64;
-        self.taken += passed;
-        self.given += passed;
+        self.core.take_many(passed);
+        self.core.give_many(passed);
     }
 
     /// None is due for the frames that fill its line, and those that push omitted ones out of it. Once the line is full, it gives
     /// one for each of those that push given ones out of it.
     fn forecast(&self) -> Forecast {
-        let taken = self.taken;
+        let taken = taken_of(&self.core);
         let reach = self.line.capacity() as u64;
         let free = reach.saturating_sub(taken);
         let frame_run = self.selection.frame_run_from(taken.saturating_sub(reach));
@@ -468,7 +472,7 @@ impl<S: Selection + Drop> PassesEarly for Selected<S> {
         output: &mut [i32],
     ) {
         let channels = self.selection.channels();
-        let place = self.taken - self.line.len() as u64;
+        let place = taken_of(&self.core) - self.line.len() as u64;
         see_samples(input);
         self.line.pop_frames(count, output);
         self.selection.select_many(output, channels, count, place);
@@ -476,7 +480,7 @@ impl<S: Selection + Drop> PassesEarly for Selected<S> {
         self.line.push_frames(input, count);
         let _held = self.line.len();
         let frames = count as u64;
-        self.taken += frames;
-        self.given += frames;
+        self.core.take_many(frames);
+        self.core.give_many(frames);
     }
 }

@@ -16,7 +16,7 @@ exchange_full-requires-clause-channels g c = c.channels-channels.ensures ∙ sym
 pub exchange_full-requires-clause-full : goal.exchange_full-requires-clause-full
 exchange_full-requires-clause-full g c =
     let may = rw (← c.self.view_is) at c.requires in
-    one_to_one-full g.S.Selection.selects g.S.Selection.determined (state c.self.inside.selection c.self.inside.pending c.self.inside.line c.self.inside.taken c.self.inside.given c.self.inside.ended) c.args.count c.self.invariant may.not_ended may.one_to_one
+    one_to_one-full g.S.Selection.selects g.S.Selection.determined (state c.self.inside.core c.self.inside.line c.self.inside.selection) c.args.count c.self.invariant may.not_ended may.one_to_one
 
 pub exchange_full-requires-clause-bound : goal.exchange_full-requires-clause-bound
 exchange_full-requires-clause-bound g c =
@@ -47,34 +47,34 @@ select_many-requires-clause-place g c =
 -- they are passed
 passes : (g : given.Over) (c : After-len-held g) →
     let selects = g.S.Selection.selects in
-    let s = state c.self.inside.selection c.self.inside.pending c.self.inside.line c.self.inside.taken c.self.inside.given c.self.inside.ended in
+    let s = state c.self.inside.core c.self.inside.line c.self.inside.selection in
     let n = c.args.count in
     let w = selects.channels c.self.inside.selection in
     let t = passed selects s c.exchange_full.new.line n n in
     EachThrough (selected_acts selects) (pieces w n c.args.samples.now) (pieces w n c.select_many.new.samples) s t × IsSelectedState selects t
 passes g c =
     let selects = g.S.Selection.selects in
-    let s = state c.self.inside.selection c.self.inside.pending c.self.inside.line c.self.inside.taken c.self.inside.given c.self.inside.ended in
+    let s = state c.self.inside.core c.self.inside.line c.self.inside.selection in
     let n : ℕ = c.args.count in
     let width = c.channels-channels.ensures in
     let may = rw (← c.self.view_is) at c.requires in
-    let empty : s.pending ≡ None = none_of s.pending may.dry in
+    let empty : s.core.pending ≡ None = none_of s.core.pending may.dry in
     let a = one_to_one-alike selects g.S.Selection.determined s n c.self.invariant may.not_ended may.one_to_one empty may.ahead may.below_limit in
     let full = one_to_one-full selects g.S.Selection.determined s n c.self.invariant may.not_ended may.one_to_one in
     let delivered = c.exchange_full.ensures in
-    let made = rw (c.len.ensures.count, width) at c.select_many.ensures.frames in
+    let made = rw (c.taken_of.ensures, c.len.ensures.count, width) at c.select_many.ensures.frames in
     let long : length c.select_many.new.samples ≡ n * selects.channels c.self.inside.selection = c.select_many.ensures.len ∙ delivered.len ∙ may.samples in
     group-passed selects g.S.Selection.determined s n c.exchange_full.new.line c.args.samples.now c.exchange_full.new.samples c.select_many.new.samples a full may.samples c.see_samples.ensures delivered.items delivered.capacity delivered.channels delivered.fallen made c.select_many.ensures.fit long
 
 pub invariant_of-self : goal.invariant_of-self
-invariant_of-self g c = (passes g (goal.at.invariant_of-self g c).After-len-held).1
+invariant_of-self g c = rw (c.give_many.ensures, c.take_many.ensures) (passes g (goal.at.invariant_of-self g c).After-len-held).1
 
 pub returns-clause-through : goal.returns-clause-through
-returns-clause-through g c = rw (← c.self.view_is) (passes g (goal.at.returns-clause-through g c).After-len-held).0
+returns-clause-through g c = rw (← c.self.view_is, c.give_many.ensures, c.take_many.ensures) (passes g (goal.at.returns-clause-through g c).After-len-held).0
 
 pub returns-clause-lined : goal.returns-clause-lined
 returns-clause-lined g c =
     let may = rw (← c.self.view_is) at c.requires in
-    let empty : c.self.inside.pending ≡ None = none_of c.self.inside.pending may.dry in
+    let empty : c.self.inside.core.pending ≡ None = none_of c.self.inside.core.pending may.dry in
     let within = c.len-held.ensures.line.within in
-    rw empty (simp append-nil (omega (arith, within, c.exchange_full.ensures.capacity, c.self.invariant.capacity)))
+    rw (c.give_many.ensures, c.take_many.ensures, empty) (simp append-nil (omega (arith, within, c.exchange_full.ensures.capacity, c.self.invariant.capacity)))

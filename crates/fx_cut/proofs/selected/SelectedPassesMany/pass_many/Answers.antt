@@ -1,5 +1,5 @@
 -- The frames that fall out up to where a stretch ends are given, or left out, all of them.
-use Rattle.std.proofs.Common.{ℕ, ◌≡◌, ◌≤◌, ◌+◌, ◌*◌, ◌-◌, ◌/◌, ◌∙◌, ◌++◌, drop, length, take, sym, arith, w32}
+use Rattle.std.proofs.Common.{rules, ℕ, ◌≡◌, ◌≤◌, ◌+◌, ◌*◌, ◌-◌, ◌/◌, ◌∙◌, ◌++◌, drop, length, take, sym, arith, w32}
 use Rattle.fx_frame_base.proofs.Flags.{none-of}
 use Rattle.std.proofs.lemmas.Grind.{common_steps}
 use Rattle.std.proofs.lemmas.List.{length-take-le}
@@ -13,11 +13,11 @@ use Rattle.fx_cut.proofs.Onto.{IsPiece, piece-fits}
 use Rattle.fx_cut.proofs.SelectMany.{Alike, fell-fit, passed, piece-passed, took-with-free}
 use Rattle.fx_cut.proofs.SelectSteps.{state}
 use Rattle.fx_cut.proofs.selected.SelectedPassesMany.pass_many.Given as given
-use Rattle.fx_cut.proofs.selected.SelectedPassesMany.pass_many.Goals.{After-given_of-given, After-push_frames, After-self-2-1}
+use Rattle.fx_cut.proofs.selected.SelectedPassesMany.pass_many.Goals.{After-given_of-given, After-push_frames, After-give_many}
 use Rattle.fx_cut.proofs.selected.SelectedPassesMany.pass_many.Goals as goal
 
-pub returns-then-is_some-clause-fed : goal.returns-then-is_some-clause-fed
-returns-then-is_some-clause-fed g c = nothing
+pub returns-then-is_pending-clause-fed : goal.returns-then-is_pending-clause-fed
+returns-then-is_pending-clause-fed g c = nothing
 
 -- the frames that come are there, and those that are given have room
 free : (g : given.Over) (c : After-given_of-given g) → IsPiece c.frame_run_from-frame_run.result.is_given c.self.inside.line c.min-count.result c.given_of-given.result c.channels-channels.result (length c.args.input.now) (length c.args.output.now)
@@ -67,9 +67,9 @@ select_many-requires-clause-place g c =
     omega (arith, bound, more, low, c.len-lined.ensures.count)
 
 -- they are passed
-passes : (g : given.Over) (c : After-self-2-1 g) →
+passes : (g : given.Over) (c : After-give_many g) →
     let selects = g.S.Selection.selects in
-    let s = state c.self.inside.selection c.self.inside.pending c.self.inside.line c.self.inside.taken c.self.inside.given c.self.inside.ended in
+    let s = state c.self.inside.core c.self.inside.line c.self.inside.selection in
     let n = c.min-count.result in
     let k = c.given_of-given.result in
     let w = selects.channels c.self.inside.selection in
@@ -77,7 +77,7 @@ passes : (g : given.Over) (c : After-self-2-1 g) →
     Fed (selected_acts selects) s (pieces w n c.args.input.now) (pieces w k (c.select_many.new.samples ++ drop (k * c.channels-channels.result) c.oldest_into.new.out)) t × IsSelectedState selects t
 passes g c =
     let selects = g.S.Selection.selects in
-    let s = state c.self.inside.selection c.self.inside.pending c.self.inside.line c.self.inside.taken c.self.inside.given c.self.inside.ended in
+    let s = state c.self.inside.core c.self.inside.line c.self.inside.selection in
     let n : ℕ = c.min-count.result in
     let k : ℕ = c.given_of-given.result in
     let w : ℕ = c.channels-channels.result in
@@ -86,13 +86,13 @@ passes g c =
     let out = fell g (goal.at.invariant_of-self g c).After-push_frames in
     let low = c.self.invariant.within in
     let below = rw (← c.self.view_is, ← width) at c.requires.below_limit in
-    let at : c.self.inside.taken - c.len-lined.result ≡ c.self.inside.taken - length c.self.inside.line.items = omega arith in
+    let at : c.taken_of-taken.result - c.len-lined.result ≡ c.self.inside.core.taken - length c.self.inside.line.items = omega arith in
     let a : Alike selects c.frame_run_from-frame_run.result.is_given s n = record {
       is = c.self.invariant;
-      empty = none-of c.self.inside.pending (sym c.if-is_some.ensures);
-      running = c.if-self.false;
+      empty = none-of c.self.inside.core.pending (search rules);
+      running = search rules;
       gives = λ i h. let within = c.self.invariant.line.within in let alike = c.frame_run_from-frame_run.ensures.alike i (omega arith) in rw at at alike;
-      wanted = λ i h. let enough = c.wanted.ensures i (omega arith) in rw c.enough.ensures at enough;
+      wanted = λ i h. let enough = c.wanted.ensures i (omega arith) in rw (c.enough.ensures, c.taken_of-taken.ensures) at enough;
       bound = below n fits.read;
     } in
     let made = rw (at, width) at c.select_many.ensures.frames in
@@ -103,10 +103,10 @@ passes g c =
     (rw width at c.push_frames.ensures.items) c.push_frames.ensures.capacity c.push_frames.ensures.channels (rw width at c.push_frames.ensures.frames) fits.number (rw width at out.1) made c.select_many.ensures.fit wide put
 
 pub invariant_of-self : goal.invariant_of-self
-invariant_of-self g c = (passes g c).1
+invariant_of-self g c = rw (c.give_many.ensures, c.take_many.ensures) (passes g c).1
 
 pub returns-clause-fed : goal.returns-clause-fed
-returns-clause-fed g c = rw (← c.self.view_is) (passes g c).0
+returns-clause-fed g c = rw (← c.self.view_is, c.give_many.ensures, c.take_many.ensures) (passes g c).0
 
 pub returns-clause-written : goal.returns-clause-written
 returns-clause-written g c =
@@ -117,16 +117,21 @@ returns-clause-written g c =
 pub overflow_mul-frames : goal.overflow_mul-frames
 overflow_mul-frames g c = grind (arith, common_steps)
 
+pub overflow_mul-made : goal.overflow_mul-made
+overflow_mul-made g c =
+    let out = (fell g (goal.at.overflow_mul-made g c).After-push_frames).0 in
+    search rules
+
 pub returns-clause-rest_unchanged : goal.returns-clause-rest_unchanged
 returns-clause-rest_unchanged g c = grind (arith, common_steps)
 
 pub returns-clause-free : goal.returns-clause-free
 returns-clause-free g c =
     let selects = g.S.Selection.selects in
-    let s = state c.self.inside.selection c.self.inside.pending c.self.inside.line c.self.inside.taken c.self.inside.given c.self.inside.ended in
+    let s = state c.self.inside.core c.self.inside.line c.self.inside.selection in
     let width = c.channels-channels.ensures in
     let there = rw (← c.self.view_is) at c.requires.channels.0 in
     let one : c.channels-channels.result ≤ length c.args.output.now = omega arith in
     let bound : c.min-count.result ≤ length c.args.output.now / c.channels-channels.result + (c.self.inside.line.capacity - length c.self.inside.line.items) = omega arith in
     rw (← c.self.view_is)
-    (took-with-free selects g.S.Selection.determined s c.min-count.result (length c.args.output.now) c.self.invariant (none-of c.self.inside.pending (sym c.if-is_some.ensures)) c.if-self.false there (rw width at one) (rw width at bound))
+    (took-with-free selects g.S.Selection.determined s c.min-count.result (length c.args.output.now) c.self.invariant (none-of c.self.inside.core.pending (search rules)) (search rules) there (rw width at one) (rw width at bound))
