@@ -12,12 +12,12 @@ KEYS = {
     'effect': ('doc copy', 'type argument', 'line max_frames frames_after frames_use layout_after channels_after uses'),
     'act': ('determined length uses', 'type value of', 'layout_after channels_after fits is_usable fits_layout recipe rises rises_use made length_use answer answer_use limits_use'),
     'words': ('reader read faults uses', 'says equal', 'equal_use refuses_name'),
-    'stage': ('takes_memory placed sound stored uses', '', 'made form core by_samples keeps'),
+    'stage': ('takes_memory placed sound stored uses', '', 'made form by_samples keeps'),
     'help': ('help_line usage limits instead manual', '', 'title picture'),
     'tests': ('fed', '', ''),
 }
 # The values that a key may have, where these are few.
-VALUES = {'stage.takes_memory': (True, False), 'stage.stored': ('line', 'pending'), 'stage.form': ('Mapped', 'Selected', 'Tapped'), 'stage.core': (True,), 'stage.by_samples': (True,), 'words.refuses_name': (True,)}
+VALUES = {'stage.takes_memory': (True, False), 'stage.stored': ('line', 'pending'), 'stage.form': ('Mapped', 'Selected', 'Tapped'), 'stage.by_samples': (True,), 'words.refuses_name': (True,)}
 
 
 def effect_names():

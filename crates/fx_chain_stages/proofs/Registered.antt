@@ -22,7 +22,7 @@ use Rattle.fx_tap_fir.specs.FirState.{fir_acts}
 
 pub is-member : (s : EffectStage) → IsMember s
 is-member (stages.Trim s) = record { narrow = λ h. narrow-stored s.line _ s.core.pending h.line h.core.fits; keeps = λ other. refl }
-is-member (stages.Pad s) = record { narrow = λ h. narrow-stored s.line _ s.pending h.line h.fits; keeps = λ other. refl }
+is-member (stages.Pad s) = record { narrow = λ h. narrow-stored s.line _ s.core.pending h.line h.core.fits; keeps = λ other. refl }
 is-member (stages.Delay s) = record { narrow = λ h. narrow-stored s.line _ s.core.pending h.line h.core.fits; keeps = λ other. refl }
 is-member (stages.Echo s) = record { narrow = λ h. narrow-stored s.line _ s.core.pending h.line h.core.fits; keeps = λ other. refl }
 is-member (stages.Echos s) = record { narrow = λ h. narrow-pending _ s.core.pending h.core.fits; keeps = λ other. refl }

@@ -10,6 +10,7 @@ use Rattle.fx_frame_base.specs.Frame.{Samples, silence}
 use Rattle.fx_frame.specs.Frozen.{IsStored}
 use Rattle.fx_frame_line.specs.Line.{Frames}
 use Rattle.fx_frame_base.specs.Stage.{Freezes, coming, numbers_of}
+use Rattle.fx_frame_base.specs.StageCore.{pending_frames, restored_core}
 use Rattle.fx_cut.specs.Pad.{IsPads, ats, lengths, pad_due, pads_from_start, placed, silent_at, RisesFrom}
 use Rattle.fx_cut.specs.PadState.{PadState, IsPad, IsPadCount, all_padded, later_count, pad_acts, pad_after, pad_left, padded_from, unless_last}
 use Rattle.fx_cut.proofs.PendingLemmas.{no-pending}
@@ -51,92 +52,96 @@ front channels ps (suc m) y r (inr h) =
     let more : upto ps (suc m) ≡ upto ps m + silent_at (pads_from_start ps) m = ap (upto ps) (let b : suc m ≡ m + 1 = omega arith in b) ∙ upto_more m (pads_from_start ps) in
     omega (arith, before, same, size, whole, next, more)
 
-left-length : (s : PadState) (z : List Samples) → length (pad_left s z) ≡ s.silent + (length (option_to_list s.pending) + length (unless_last s.ended s.pending (pad_after s.recipe s.taken s.line.items (coming s.ended z))))
+left-length : (s : PadState) (z : List Samples) → length (pad_left s z) ≡ s.silent + (length (pending_frames s.core) + length (unless_last s.core.ended s.core.pending (pad_after s.recipe s.core.taken s.line.items (coming s.core.ended z))))
 left-length s z =
-    let later : List Samples = unless_last s.ended s.pending (pad_after s.recipe s.taken s.line.items (coming s.ended z)) in
-    length-append (replicate s.silent (silence s.recipe.channels)) (option_to_list s.pending ++ later)
-    ∙ ap₂ ◌+◌ (length-replicate s.silent (silence s.recipe.channels)) (length-append (option_to_list s.pending) later)
+    let later : List Samples = unless_last s.core.ended s.core.pending (pad_after s.recipe s.core.taken s.line.items (coming s.core.ended z)) in
+    length-append (replicate s.silent (silence s.recipe.channels)) (pending_frames s.core ++ later)
+    ∙ ap₂ ◌+◌ (length-replicate s.silent (silence s.recipe.channels)) (length-append (pending_frames s.core) later)
 
-within-open : (s : PadState) → IsPads s.recipe.pads → length s.line.items ≡ min s.taken (largest (map pad_distance s.recipe.pads)) → s.ended ≡ false
-    → s.given + s.silent + length (option_to_list s.pending) ≡ pad_due s.recipe.pads s.taken → (z : List Samples) → s.given + length (pad_left s z) ≤ s.taken + length z + lengths s.recipe.pads
+within-open : (s : PadState) → IsPads s.recipe.pads → length s.line.items ≡ min s.core.taken (largest (map pad_distance s.recipe.pads)) → s.core.ended ≡ false
+    → s.core.given + s.silent + length (pending_frames s.core) ≡ pad_due s.recipe.pads s.core.taken → (z : List Samples) → s.core.given + length (pad_left s z) ≤ s.core.taken + length z + lengths s.recipe.pads
 within-open s pads full running counted z =
     let items : List Samples = s.line.items in
-    let m : ℕ = s.taken - largest (map pad_distance s.recipe.pads) in
-    let place : s.taken - length items ≡ m = omega arith in
+    let m : ℕ = s.core.taken - largest (map pad_distance s.recipe.pads) in
+    let place : s.core.taken - length items ≡ m = omega arith in
     let long : length (items ++ z) ≡ length items + length z = length-append items z in
-    let near : (m ≡ 0) ⊎ (largest (map pad_distance s.recipe.pads) ≤ length (items ++ z)) = go (cases_lt (largest (map pad_distance s.recipe.pads)) s.taken) in
+    let near : (m ≡ 0) ⊎ (largest (map pad_distance s.recipe.pads) ≤ length (items ++ z)) = go (cases_lt (largest (map pad_distance s.recipe.pads)) s.core.taken) in
     let maximum = front s.recipe.channels s.recipe.pads m (items ++ z) pads.rising near in
-    let later : unless_last s.ended s.pending (pad_after s.recipe s.taken items (coming s.ended z)) ≡ padded_from s.recipe.channels (m + length (items ++ z)) s.recipe.pads m (items ++ z) =
-    unchanged s.ended s.pending running ∙ ap (λ n. padded_from s.recipe.channels (n + length (items ++ z)) s.recipe.pads n (items ++ z)) place in
+    let later : unless_last s.core.ended s.core.pending (pad_after s.recipe s.core.taken items (coming s.core.ended z)) ≡ padded_from s.recipe.channels (m + length (items ++ z)) s.recipe.pads m (items ++ z) =
+    unchanged s.core.ended s.core.pending running ∙ ap (λ n. padded_from s.recipe.channels (n + length (items ++ z)) s.recipe.pads n (items ++ z)) place in
     let l = left-length s z in
-    let k : length (unless_last s.ended s.pending (pad_after s.recipe s.taken items (coming s.ended z))) ≡ length (padded_from s.recipe.channels (m + length (items ++ z)) s.recipe.pads m (items ++ z)) = ap length later in
+    let k : length (unless_last s.core.ended s.core.pending (pad_after s.recipe s.core.taken items (coming s.core.ended z))) ≡ length (padded_from s.recipe.channels (m + length (items ++ z)) s.recipe.pads m (items ++ z)) = ap length later in
     omega (arith, l, k, maximum, counted, long)
   where
-    go : (largest (map pad_distance s.recipe.pads) < s.taken) ⊎ (s.taken ≤ largest (map pad_distance s.recipe.pads)) → (s.taken - largest (map pad_distance s.recipe.pads) ≡ 0) ⊎ (largest (map pad_distance s.recipe.pads) ≤ length (s.line.items ++ z))
+    go : (largest (map pad_distance s.recipe.pads) < s.core.taken) ⊎ (s.core.taken ≤ largest (map pad_distance s.recipe.pads)) → (s.core.taken - largest (map pad_distance s.recipe.pads) ≡ 0) ⊎ (largest (map pad_distance s.recipe.pads) ≤ length (s.line.items ++ z))
     go (inl l) = inr (omega (arith, length-append s.line.items z))
     go (inr g) = inl (omega arith)
 
-    unchanged : (ended : Bool) (pending : Option Samples) → ended ≡ false → unless_last ended pending (pad_after s.recipe s.taken s.line.items (coming ended z)) ≡ pad_after s.recipe s.taken s.line.items z
+    unchanged : (ended : Bool) (pending : Option Samples) → ended ≡ false → unless_last ended pending (pad_after s.recipe s.core.taken s.line.items (coming ended z)) ≡ pad_after s.recipe s.core.taken s.line.items z
     unchanged false pending e = refl
     unchanged true pending e = absurd (cc)
 
 -- ---- after the end
 
-later-length : (s : PadState) (z : List Samples) → s.ended ≡ true → length s.line.items ≤ s.taken
-    → length (unless_last s.ended s.pending (pad_after s.recipe s.taken s.line.items (coming s.ended z))) ≡ later_count s.recipe.pads s.taken (length s.line.items) (length (option_to_list s.pending))
-later-length s z over h = go s.ended s.pending over
+later-length : (s : PadState) (z : List Samples) → s.core.ended ≡ true → length s.line.items ≤ s.core.taken
+    → length (unless_last s.core.ended s.core.pending (pad_after s.recipe s.core.taken s.line.items (coming s.core.ended z))) ≡ later_count s.recipe.pads s.core.taken (length s.line.items) (length (pending_frames s.core))
+later-length s z over h = go s.core.ended s.core.pending over
   where
-    go : (ended : Bool) (pending : Option Samples) → ended ≡ true → length (unless_last ended pending (pad_after s.recipe s.taken s.line.items (coming ended z))) ≡ later_count s.recipe.pads s.taken (length s.line.items) (length (option_to_list pending))
+    go : (ended : Bool) (pending : Option Samples) → ended ≡ true → length (unless_last ended pending (pad_after s.recipe s.core.taken s.line.items (coming ended z))) ≡ later_count s.recipe.pads s.core.taken (length s.line.items) (length (option_to_list pending))
     go false pending e = absurd (cc)
     go true None e = refl
     go true (Some x) e =
         let items : List Samples = s.line.items in
-        let n : ℕ = s.taken - length items in
+        let n : ℕ = s.core.taken - length items in
         let nil : items ++ [] ≡ items = append-nil items in
-        let whole : n + length items ≡ s.taken = omega arith in
+        let whole : n + length items ≡ s.core.taken = omega arith in
         ap (λ l. length (padded_from s.recipe.channels (n + length l) s.recipe.pads n l)) nil
         ∙ ap (λ t. length (padded_from s.recipe.channels t s.recipe.pads n items)) whole
-        ∙ length_from s.recipe.channels s.taken s.recipe.pads n items whole
+        ∙ length_from s.recipe.channels s.core.taken s.recipe.pads n items whole
 
 -- ---- the counts
 
-count-of : (s : PadState) → IsPad s → IsPadCount s.recipe.pads s.taken s.given s.silent (length s.line.items) (length (option_to_list s.pending)) s.ended
+count-of : (s : PadState) → IsPad s → IsPadCount s.recipe.pads s.core.taken s.core.given s.silent (length s.line.items) (length (pending_frames s.core)) s.core.ended
 count-of s is =
     let w = is.held in
     record {
       full = λ e. let f = is.full e in let c = is.capacity in omega arith;
       counted = is.counted;
-      over = λ e none. ap length (is.over e (no-pending s.pending none));
+      over = λ e none. ap length (is.over e (no-pending s.core.pending none));
       gone = λ e.
-          let m : s.given + length (pad_left s []) ≡ all_padded s.recipe.pads s.taken = is.gone e in
+          let m : s.core.given + length (pad_left s []) ≡ all_padded s.recipe.pads s.core.taken = is.gone e in
           omega (arith, m, left-length s [], later-length s [] e (omega arith));
     }
 
 pub frozen-count : (s : PadState) (ps : List (ℕ × At)) (numbers : List ℕ) → IsPad s → s.recipe.pads ≡ ps → numbers ≡ numbers_of pad_acts s
     → IsPadCount ps (slice_index_or numbers 0 0) (slice_index_or numbers 1 0) (slice_index_or numbers 5 0) (slice_index_or numbers 4 0 - slice_index_or numbers 6 0) (slice_index_or numbers 6 0) (nat_eq (slice_index_or numbers 2 0) 1)
 frozen-count s ps numbers is e f =
-    let l = lined s.line.items (option_to_list s.pending) in
-    rw (f, flag-of s.ended, l, ← e) (count-of s is)
+    let l = lined s.line.items (pending_frames s.core) in
+    rw (f, flag-of s.core.ended, l, ← e) (count-of s is)
 
 -- what it stores
 pub stored-of : (s : PadState) (channels : ℕ) (ps : List (ℕ × At)) (frames : List Samples) (numbers : List ℕ) → IsPad s → s.recipe ≡ record { channels = channels; pads = ps } → Freezes pad_acts s frames numbers
-    → IsStored channels (largest (map pad_distance ps)) (slice_index_or numbers 6 0) frames s.line s.pending
+    → IsStored channels (largest (map pad_distance ps)) (slice_index_or numbers 6 0) frames s.line s.core.pending
 stored-of s channels ps frames numbers is e f = record {
   lined = is.line;
   channels_are = is.channels ∙ ap (λ r. r.channels) e;
   capacity_is = is.capacity ∙ ap (λ r. largest (map pad_distance r.pads)) e;
-  held = rw (ap (λ r. r.channels) e) at is.fits;
+  held = rw (ap (λ r. r.channels) e) at is.core.fits;
   pending_count_is = sym (ap (λ l. slice_index_or l 6 0) f.counted);
   stored = f.stored;
 }
 
--- a pad of such counts that stores these frames
+-- the stage that counted these, and stores these frames
+abbrev pub thawed : ℕ → ℕ → ℕ → ℕ → Bool → List (ℕ × At) → Frames ℤ → Option Samples → PadState
+thawed channels taken given silent ended ps line pending =
+    record { core = restored_core pending 0 (record { taken = taken; given = given; clips = 0; ended = ended }); recipe = record { channels = channels; pads = ps }; silent = silent; line = line }
+
+-- it is a pad where the counts are those of one
 pub IsPad-thawed : (channels capacity taken given silent held pending_count : ℕ) (ended : Bool) (ps : List (ℕ × At)) (frames : List Samples) (line : Frames ℤ) (pending : Option Samples)
     → IsStored channels capacity pending_count frames line pending → capacity ≡ largest (map pad_distance ps) → IsPads ps → taken ≤ 2 ^ 56 → held ≤ taken → held ≡ length frames
     → IsPadCount ps taken given silent (held - pending_count) pending_count ended
-    → IsPad (record { pending = pending; recipe = record { channels = channels; pads = ps }; silent = silent; line = line; taken = taken; given = given; ended = ended })
+    → IsPad (thawed channels taken given silent ended ps line pending)
 IsPad-thawed channels capacity taken given silent held pending_count ended ps frames line pending st cap pads bound high same count =
-    let s : PadState = record { pending = pending; recipe = record { channels = channels; pads = ps }; silent = silent; line = line; taken = taken; given = given; ended = ended } in
     let h : length (option_to_list pending) ≡ pending_count = st.pending_count_is in
     let all : length frames ≡ length line.items + length (option_to_list pending) = ap length st.stored ∙ length-append line.items (option_to_list pending) in
     let items : held - pending_count ≡ length line.items = omega arith in
@@ -144,22 +149,21 @@ IsPad-thawed channels capacity taken given silent held pending_count ended ps fr
     let full : ended ≡ false → length line.items ≡ min taken (largest (map pad_distance ps)) = λ e. let k = count.full e in omega arith in
     let counted : ended ≡ false → given + silent + length (option_to_list pending) ≡ pad_due ps taken = λ e. let k = count.counted e in omega (arith, k) in
     record {
+      core = record { bound = bound; no_clips = refl; no_pending_clips = refl; fits = st.held };
       line = st.lined;
       channels = st.channels_are;
       capacity = c;
       pads = pads;
-      bound = bound;
       held = omega arith;
       within = λ z. go z ended refl full counted;
       full = λ e. let k = count.full e in omega arith;
       counted = counted;
       over = λ e none. let z : pending_count ≡ 0 = sym h ∙ ap (λ o. length (option_to_list o)) none in let k = count.over e z in nil_from_length line.items (omega arith);
       gone = λ e. delivered [] e;
-      fits = st.held;
     }
   where
     state : PadState
-    state = record { pending = pending; recipe = record { channels = channels; pads = ps }; silent = silent; line = line; taken = taken; given = given; ended = ended }
+    state = thawed channels taken given silent ended ps line pending
 
     delivered : (z : List Samples) → ended ≡ true → given + length (pad_left state z) ≡ all_padded ps taken
     delivered z e =
@@ -175,6 +179,6 @@ IsPad-thawed channels capacity taken given silent held pending_count ended ps fr
     go z true e full counted = omega (arith, delivered z e, silence-bound taken ps)
 
 -- the same stage
-pub same-pad : (s : PadState) (channels : ℕ) (ps : List (ℕ × At)) (numbers : List ℕ) (line : Frames ℤ) (pending : Option Samples) → s.recipe ≡ record { channels = channels; pads = ps } → numbers ≡ numbers_of pad_acts s → line ≡ s.line → pending ≡ s.pending
-    → record { pending = pending; recipe = record { channels = channels; pads = ps }; silent = slice_index_or numbers 5 0; line = line; taken = slice_index_or numbers 0 0; given = slice_index_or numbers 1 0; ended = nat_eq (slice_index_or numbers 2 0) 1 } ≡ s
-same-pad s channels ps numbers line pending r n l h = rw (n, l, h, ← r, flag-of s.ended) refl
+pub same-pad : (s : PadState) (channels : ℕ) (ps : List (ℕ × At)) (numbers : List ℕ) (line : Frames ℤ) (pending : Option Samples) → IsPad s → s.recipe ≡ record { channels = channels; pads = ps } → numbers ≡ numbers_of pad_acts s → line ≡ s.line → pending ≡ s.core.pending
+    → thawed channels (slice_index_or numbers 0 0) (slice_index_or numbers 1 0) (slice_index_or numbers 5 0) (nat_eq (slice_index_or numbers 2 0) 1) ps line pending ≡ s
+same-pad s channels ps numbers line pending is r n l h = rw (n, l, h, ← r, flag-of s.core.ended) (ap₂ (λ (m k : ℕ). record s { core = record s.core { pending_clips = m; clips = k } }) (sym is.core.no_pending_clips) (sym is.core.no_clips))

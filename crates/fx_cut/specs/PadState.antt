@@ -1,5 +1,5 @@
 -- The stage of `pad`: what it stores, its invariant, and what it is still to give (this project's profile).
-use Rattle.std.specs.Prelude.{ℕ, ℤ, ◌+◌, ◌-◌, ◌^◌, ◌≤◌, ◌≡◌, min, nat_le, nat_eq, Bool, true, false, ◌&&◌, if◌then◌else◌, List, [], ◌∷◌, ◌++◌, filter, flat_map, length, map, replicate, sum_by, Option, Some, None, option_to_list, is_none}
+use Rattle.std.specs.Prelude.{ℕ, ℤ, ◌+◌, ◌-◌, ◌≤◌, ◌≡◌, min, nat_le, nat_eq, Bool, true, false, ◌&&◌, if◌then◌else◌, List, [], ◌∷◌, ◌++◌, filter, flat_map, length, map, replicate, sum_by, Option, Some, None, is_none}
 use Rattle.std.proofs.Common.{arith}
 use Rattle.std.specs.List.{enumerate_from}
 use Rattle.std.specs.Int.{w32}
@@ -8,22 +8,19 @@ use Rattle.fx_cut.specs.PadExtents.{pad_distance}
 use Rattle.fx_fixed.specs.declared.positions.At.{At}
 use Rattle.fx_frame_base.specs.Frame.{Samples, silence}
 use Rattle.fx_frame_line.specs.Line.{Frames, IsLine}
-use Rattle.fx_frame_base.specs.PendingFrame.{IsPending}
 use Rattle.fx_frame_base.specs.Stage.{Acts, coming}
+use Rattle.fx_frame_base.specs.StageCore.{IsUnclippedCore, core_counts, pending_frames}
+use Rattle.fx_frame_base.specs.declared.stage_core.StageCore.{StageCore}
 use Rattle.fx_frame_base.specs.Given.{plain}
 use Rattle.fx_cut.specs.Pad.{lengths, placed, silent_at, pad_due, IsPads, PadArguments, pad_kind, pad_meaning}
 
 -- what a `Pad` stores
 pub record PadState : Type 0 where
-  -- the frame to be given after the silence
-  pub pending : Option Samples
+  pub core : StageCore
   pub recipe : PadArguments
-  -- how many silent frames are to be given
+  -- how many silent frames are to be given before the pending frame
   pub silent : ℕ
   pub line : Frames ℤ
-  pub taken : ℕ
-  pub given : ℕ
-  pub ended : Bool
 
 -- what is given for the frames from frame n on, in a sound of `len` frames that ends with them
 abbrev pub padded_from : ℕ → ℕ → List (ℕ × At) → ℕ → List Samples → List Samples
@@ -47,7 +44,7 @@ unless_last false pending later = later
 
 -- what is still to be given: silence, the pending frame, and what is given for the frames of the line and those that come
 abbrev pub pad_left : PadState → List Samples → List Samples
-pad_left s z = replicate s.silent (silence s.recipe.channels) ++ (option_to_list s.pending ++ unless_last s.ended s.pending (pad_after s.recipe s.taken s.line.items (coming s.ended z)))
+pad_left s z = replicate s.silent (silence s.recipe.channels) ++ (pending_frames s.core ++ unless_last s.core.ended s.core.pending (pad_after s.recipe s.core.taken s.line.items (coming s.core.ended z)))
 
 -- how many silent frames stand at a place or after it
 abbrev pub silence_from : List (ℕ × ℕ) → ℕ → ℕ
@@ -59,18 +56,18 @@ all_padded pads taken = taken + silence_from (placed taken pads) 0
 
 -- the invariant of the stage
 pub record IsPad (s : PadState) : Type 0 where
+  -- what holds of each core of a stage that clips no sample
+  pub core : IsUnclippedCore s.recipe.channels s.core
   pub line : IsLine w32 s.line
   pub channels : s.line.channels ≡ s.recipe.channels
   pub capacity : s.line.capacity ≡ largest (map pad_distance s.recipe.pads)
   pub pads : IsPads s.recipe.pads
-  pub bound : s.taken ≤ 2 ^ 56
-  pub held : length s.line.items + length (option_to_list s.pending) ≤ s.taken
-  pub within : (z : List Samples) → s.given + length (pad_left s z) ≤ s.taken + length z + lengths s.recipe.pads
-  pub full : s.ended ≡ false → length s.line.items ≡ min s.taken s.line.capacity
-  pub counted : s.ended ≡ false → s.given + s.silent + length (option_to_list s.pending) ≡ pad_due s.recipe.pads s.taken
-  pub over : s.ended ≡ true → s.pending ≡ None → s.line.items ≡ []
-  pub gone : s.ended ≡ true → s.given + length (pad_left s []) ≡ all_padded s.recipe.pads s.taken
-  pub fits : IsPending s.recipe.channels s.pending
+  pub held : length s.line.items + length (pending_frames s.core) ≤ s.core.taken
+  pub within : (z : List Samples) → s.core.given + length (pad_left s z) ≤ s.core.taken + length z + lengths s.recipe.pads
+  pub full : s.core.ended ≡ false → length s.line.items ≡ min s.core.taken s.line.capacity
+  pub counted : s.core.ended ≡ false → s.core.given + s.silent + length (pending_frames s.core) ≡ pad_due s.recipe.pads s.core.taken
+  pub over : s.core.ended ≡ true → s.core.pending ≡ None → s.line.items ≡ []
+  pub gone : s.core.ended ≡ true → s.core.given + length (pad_left s []) ≡ all_padded s.recipe.pads s.core.taken
 
 -- how many frames come after the pending one, after the end of a sound of `taken` frames, the last of which are in the line
 abbrev pub later_count : List (ℕ × At) → ℕ → ℕ → ℕ → ℕ
@@ -90,11 +87,11 @@ pad_acts = record {
   kind_of = pad_kind;
   meaning = pad_meaning;
   rest = λ s z. map plain (pad_left s z);
-  counts = λ s. record { taken = s.taken; given = s.given; clips = 0; ended = s.ended };
-  dry = λ s. is_none s.pending && nat_eq s.silent 0;
-  stored = λ s. s.line.items ++ option_to_list s.pending;
+  counts = λ s. core_counts s.core;
+  dry = λ s. is_none s.core.pending && nat_eq s.silent 0;
+  stored = λ s. s.line.items ++ pending_frames s.core;
   capacity = λ s. s.line.capacity;
-  state_counters = λ s. record { first = s.silent; second = length (option_to_list s.pending); third = 0 };
+  state_counters = λ s. record { first = s.silent; second = length (pending_frames s.core); third = 0 };
 }
 
 -- more frames taken never mean fewer frames given

@@ -19,6 +19,7 @@ use fx_frame::frozen::{stored_in, thawed_line_and_pending};
 use fx_frame::{
     Counters, Feeds, Forecast, Frame, Line, Passed, Passing, Stage, ThawFault, WideFrame,
 };
+use fx_frame_base::StageCore;
 use fx_frame_base::feed::copy_frames;
 use fx_frame_base::stage::MAX_TAKEN;
 use std::alloc::{AllocError, Global};
@@ -260,14 +261,11 @@ fn next_padded(line: &mut Line, pads: &[(u64, At)], frames: u64) -> (u64, Option
 /// frame. It takes up to `2^56` frames.
 #[derive(Drop)]
 pub struct Pad {
-    pending: Option<Frame>,
+    core: StageCore,
     channels: usize,
     pads: Pads,
     silent: u64,
     line: Line,
-    taken: u64,
-    given: u64,
-    ended: bool,
 }
 
 impl Model for Pad {
@@ -275,9 +273,9 @@ impl Model for Pad {
 
     ghost Value = { PadState };
 
-    ghost view = { λ s. record { pending = s.pending; recipe = record { channels = s.channels; pads = s.pads }; silent = s.silent; line = s.line; taken = s.taken; given = s.given; ended = s.ended } };
+    ghost view = { λ s. record { core = s.core; recipe = record { channels = s.channels; pads = s.pads }; silent = s.silent; line = s.line } };
 
-    ghost invariant = { λ s. IsPad (record { pending = s.pending; recipe = record { channels = s.channels; pads = s.pads }; silent = s.silent; line = s.line; taken = s.taken; given = s.given; ended = s.ended }) };
+    ghost invariant = { λ s. IsPad (record { core = s.core; recipe = record { channels = s.channels; pads = s.pads }; silent = s.silent; line = s.line }) };
 }
 
 impl Pad {
@@ -294,14 +292,11 @@ impl Pad {
         let mut copies = Vec::new(alloc);
         copies.extend_from_slice(pads)?;
         Ok(Pad {
-            pending: None,
+            core: StageCore::new(),
             channels,
             pads: Pads::of(copies),
             silent: 0,
             line,
-            taken: 0,
-            given: 0,
-            ended: false,
         })
     }
 
@@ -354,15 +349,18 @@ impl Pad {
             frames,
             pending_count,
         )?;
+        let counters = Counters {
+            taken,
+            given,
+            clips: 0,
+            ended: ended == 1,
+        };
         Ok(Pad {
-            pending,
+            core: StageCore::restored(pending, 0, counters),
             channels,
             pads: Pads::of(copies),
             silent,
             line,
-            taken,
-            given,
-            ended: ended == 1,
         })
     }
 }
@@ -377,8 +375,8 @@ impl Stage for Pad {
     ghost rises = { pad_rises };
 
     fn take(&mut self, frame: Frame) {
-        let place = self.taken - self.line.len() as u64;
-        self.taken += 1;
+        let place = self.core.counter_values().taken - self.line.len() as u64;
+        self.core.take();
         let fallen = self.line.push(frame);
         let _held = self.line.len();
         let Some(oldest) = fallen else {
@@ -386,48 +384,41 @@ impl Stage for Pad {
         };
         let _channels = oldest.channels();
         self.silent = self.pads.silence_at(place);
-        self.pending = Some(oldest);
+        self.core.set_pending(Some(oldest));
     }
 
     fn end(&mut self) {
-        self.ended = true;
-        let (silent, pending) = next_padded(&mut self.line, self.pads.all(), self.taken);
+        self.core.end();
+        let frames = self.core.counter_values().taken;
+        let (silent, pending) = next_padded(&mut self.line, self.pads.all(), frames);
         self.silent = silent;
-        self.pending = pending;
+        self.core.set_pending(pending);
     }
 
     fn give(&mut self) -> Option<Frame> {
         if self.silent > 0 {
             self.silent -= 1;
-            self.given += 1;
+            self.core.give_made(0);
             return Some(Frame::silence(self.channels));
         }
-        let Some(frame) = self.pending else {
-            return None;
-        };
-        self.given += 1;
-        if !self.ended {
-            self.pending = None;
+        let frame = self.core.give()?;
+        if !self.core.is_ended() {
             return Some(frame);
         }
-        let (silent, pending) = next_padded(&mut self.line, self.pads.all(), self.taken);
+        let frames = self.core.counter_values().taken;
+        let (silent, pending) = next_padded(&mut self.line, self.pads.all(), frames);
         self.silent = silent;
-        self.pending = pending;
+        self.core.set_pending(pending);
         Some(frame)
     }
 
     fn is_dry(&self) -> bool {
-        self.pending.is_none() && self.silent == 0
+        !self.core.is_pending() && self.silent == 0
     }
 
     #[inline(always)]
     fn counter_values(&self) -> Counters {
-        Counters {
-            taken: self.taken,
-            given: self.given,
-            clips: 0,
-            ended: self.ended,
-        }
+        self.core.counter_values()
     }
 
     fn is_spent(&self) -> bool {
@@ -435,7 +426,7 @@ impl Stage for Pad {
     }
 
     fn held(&self) -> u64 {
-        self.line.len() as u64 + u64::from(self.pending.is_some())
+        self.line.len() as u64 + u64::from(self.core.is_pending())
     }
 
     fn hold(&self) -> u64 {
@@ -451,11 +442,11 @@ impl Stage for Pad {
     }
 
     fn state_counters(&self) -> [u64; 3] {
-        [self.silent, u64::from(self.pending.is_some()), 0]
+        [self.silent, u64::from(self.core.is_pending()), 0]
     }
 
     fn stored(&self, j: usize) -> WideFrame {
-        stored_in(&self.line, self.pending, j)
+        stored_in(&self.line, self.core.pending(), j)
     }
 }
 
@@ -463,14 +454,18 @@ impl PassesMany for Pad {
     /// Where it has no line, copies the frames up to the next pad.
     fn pass_many(&mut self, input: &[i32], output: &mut [i32]) -> Passed {
         let channels = self.channels;
-        if self.line.capacity() != 0 || self.pending.is_some() || self.silent != 0 || self.ended {
+        if self.line.capacity() != 0
+            || self.core.is_pending()
+            || self.silent != 0
+            || self.core.is_ended()
+        {
             return Passed { taken: 0, given: 0 };
         }
-        let clear_frames = clear_frames_from(self.pads.all(), self.taken);
+        let first = self.core.counter_values().taken;
+        let clear_frames = clear_frames_from(self.pads.all(), first);
         let count = clear_frames.min((input.len() / channels) as u64) as usize;
         let copied = copy_frames(&input[..count * channels], output, channels);
-        self.taken += copied as u64;
-        self.given += copied as u64;
+        self.core.pass(copied, 0);
         Passed {
             taken: copied,
             given: copied,
@@ -485,10 +480,10 @@ impl Feeds for Pad {
 
     #[inline(always)]
     fn pass_samples(&mut self, samples: &mut [i32]) -> Passing {
-        let is_known = self.line.capacity() == 0 && self.pads.is_clear(self.taken);
+        let place = self.core.counter_values().taken;
+        let is_known = self.line.capacity() == 0 && self.pads.is_clear(place);
         if is_known {
-            self.taken += 1;
-            self.given += 1;
+            self.core.pass(1, 0);
             return Passing::Through;
         }
         pass_by_frame(self, samples)
@@ -496,9 +491,10 @@ impl Feeds for Pad {
 
     /// Where it has no line, it gives one for each of the frames up to the next pad.
     fn forecast(&self) -> Forecast {
-        if self.line.capacity() != 0 || self.ended {
+        if self.line.capacity() != 0 || self.core.is_ended() {
             return Forecast::endless(0);
         }
-        Forecast::endless(clear_frames_from(self.pads.all(), self.taken))
+        let taken = self.core.counter_values().taken;
+        Forecast::endless(clear_frames_from(self.pads.all(), taken))
     }
 }

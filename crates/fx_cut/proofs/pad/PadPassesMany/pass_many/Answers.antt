@@ -1,12 +1,12 @@
 -- Up to the next pad the frames are passed, all of them.
-use Rattle.std.proofs.Common.{rules, ◌≡◌, ◌+◌, ◌≤◌, ◌*◌, ◌∙◌, length, take, arith}
+use Rattle.std.proofs.Common.{rules, ◌≡◌, ◌≤◌, ◌*◌, ◌∙◌, length, take, arith}
 use Rattle.fx_frame_base.proofs.Flags.{none-of}
 use Rattle.std.proofs.lemmas.List.{length-take-le}
 use Rattle.fx_frame_base.specs.Feed.{Fed, nothing}
 use Rattle.fx_frame_base.specs.Lists.{pieces}
 use Rattle.fx_cut.specs.PadState.{IsPad, pad_acts}
 use Rattle.fx_cut.specs.declared.pad.Pad.TheView.{view}
-use Rattle.fx_cut.proofs.PadMany.{AreClear, clear_frames-passed, took-with-free}
+use Rattle.fx_cut.proofs.PadMany.{AreClear, clear_frames-passed, passed, took-with-free}
 use Rattle.fx_cut.proofs.Pieces.{bound-pieces, frames-free, pieces-cut}
 use Rattle.fx_cut.proofs.pad.PadPassesMany.pass_many.Goals.{After-copy_frames-copied}
 use Rattle.fx_cut.proofs.pad.PadPassesMany.pass_many.Goals as goal
@@ -31,20 +31,20 @@ clear_frames c =
     let there = cut c in
     let read = c.copy_frames-copied.ensures.read in
     let fewer : n ≤ count = bound-pieces n count ch (rw (← c.self.view_is) at c.requires.channels.0) (omega (arith, read, there.1)) in
-    let clear_frames = rw c.all.ensures at c.clear_frames_from-clear_frames.ensures in
+    let clear_frames = rw (c.all.ensures, c.counter_values-first.ensures) at c.clear_frames_from-clear_frames.ensures in
     let ahead : n ≤ c.clear_frames_from-clear_frames.result = omega (arith, fewer, c.min-count.ensures) in
     record {
       is = c.self.invariant;
       short = search rules;
-      empty = none-of c.self.inside.pending (search rules);
+      empty = none-of c.self.inside.core.pending (search rules);
       none = c.if-self-ne0.false;
-      running = c.if-self.false;
+      running = search rules;
       clear_frames = λ i h. clear_frames i (omega (arith, h, ahead));
       bound = below n (omega (arith, read, there.1, there.0));
     }
 
 -- so many frames are passed
-passes : (c : After-copy_frames-copied) → let s = view c.self.inside in let n = c.copy_frames-copied.result in let t = record s { taken = s.taken + n; given = s.given + n } in
+passes : (c : After-copy_frames-copied) → let s = view c.self.inside in let n = c.copy_frames-copied.result in let t = passed s n in
     Fed pad_acts s (pieces s.recipe.channels n c.args.input.now) (pieces s.recipe.channels n c.copy_frames-copied.new.output) t × IsPad t
 passes c =
     let n = c.copy_frames-copied.result in
@@ -56,10 +56,10 @@ passes c =
     clear_frames-passed (view c.self.inside) n input c.copy_frames-copied.new.output (clear_frames c) (omega (arith, read, there.1, there.0)) same
 
 pub invariant_of-self : goal.invariant_of-self
-invariant_of-self c = (passes (goal.at.invariant_of-self c).After-copy_frames-copied).1
+invariant_of-self c = rw c.pass.ensures (passes (goal.at.invariant_of-self c).After-copy_frames-copied).1
 
 pub returns-clause-fed : goal.returns-clause-fed
-returns-clause-fed c = rw (← c.self.view_is) (passes (goal.at.returns-clause-fed c).After-copy_frames-copied).0
+returns-clause-fed c = rw (← c.self.view_is, c.pass.ensures) (passes (goal.at.returns-clause-fed c).After-copy_frames-copied).0
 
 pub returns-clause-free : goal.returns-clause-free
 returns-clause-free c =
