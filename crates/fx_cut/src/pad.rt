@@ -375,7 +375,7 @@ impl Stage for Pad {
     ghost rises = { pad_rises };
 
     fn take(&mut self, frame: Frame) {
-        let place = self.core.counter_values().taken - self.line.len() as u64;
+        let place = self.core.taken() - self.line.len() as u64;
         self.core.take();
         let fallen = self.line.push(frame);
         let _held = self.line.len();
@@ -389,7 +389,7 @@ impl Stage for Pad {
 
     fn end(&mut self) {
         self.core.end();
-        let frames = self.core.counter_values().taken;
+        let frames = self.core.taken();
         let (silent, pending) = next_padded(&mut self.line, self.pads.all(), frames);
         self.silent = silent;
         self.core.set_pending(pending);
@@ -405,7 +405,7 @@ impl Stage for Pad {
         if !self.core.is_ended() {
             return Some(frame);
         }
-        let frames = self.core.counter_values().taken;
+        let frames = self.core.taken();
         let (silent, pending) = next_padded(&mut self.line, self.pads.all(), frames);
         self.silent = silent;
         self.core.set_pending(pending);
@@ -461,7 +461,7 @@ impl PassesMany for Pad {
         {
             return Passed { taken: 0, given: 0 };
         }
-        let first = self.core.counter_values().taken;
+        let first = self.core.taken();
         let clear_frames = clear_frames_from(self.pads.all(), first);
         let count = clear_frames.min((input.len() / channels) as u64) as usize;
         let copied = copy_frames(&input[..count * channels], output, channels);
@@ -480,7 +480,7 @@ impl Feeds for Pad {
 
     #[inline(always)]
     fn pass_samples(&mut self, samples: &mut [i32]) -> Passing {
-        let place = self.core.counter_values().taken;
+        let place = self.core.taken();
         let is_known = self.line.capacity() == 0 && self.pads.is_clear(place);
         if is_known {
             self.core.pass(1, 0);
@@ -494,7 +494,7 @@ impl Feeds for Pad {
         if self.line.capacity() != 0 || self.core.is_ended() {
             return Forecast::endless(0);
         }
-        let taken = self.core.counter_values().taken;
+        let taken = self.core.taken();
         Forecast::endless(clear_frames_from(self.pads.all(), taken))
     }
 }

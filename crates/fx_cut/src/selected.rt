@@ -114,14 +114,6 @@ fn given_of(is_given: bool, fallen: usize) -> usize
     if is_given { fallen } else { 0 }
 }
 
-/// How many frames a stage of this core took.
-#[inline(always)]
-fn taken_of(core: &StageCore) -> u64
-    ensures { result ≡ core.now.taken }
-{
-    core.counter_values().taken
-}
-
 /// Whether a stage of reach `reach`, with `lined` frames in its line and `pending_count` pending, has these counts. Before the
 /// end it has given what is due, after the end those that are given before the line, and it has a pending frame unless its line
 /// is empty.
@@ -285,7 +277,7 @@ impl<S: Selection + Drop> Stage for Selected<S> {
     ghost rises = { λ r m n h. h };
 
     fn take(&mut self, frame: Frame) {
-        let taken = taken_of(&self.core);
+        let taken = self.core.taken();
         let place = taken - self.line.len() as u64;
         self.core.take();
         let fallen = self.line.push(frame);
@@ -297,7 +289,7 @@ impl<S: Selection + Drop> Stage for Selected<S> {
     }
 
     fn end(&mut self) {
-        let frames = taken_of(&self.core);
+        let frames = self.core.taken();
         self.core.end();
         let next = next_selected(&mut self.line, &self.selection, frames);
         self.core.set_pending(next);
@@ -308,7 +300,7 @@ impl<S: Selection + Drop> Stage for Selected<S> {
         if !self.core.is_ended() {
             return Some(frame);
         }
-        let frames = taken_of(&self.core);
+        let frames = self.core.taken();
         let next = next_selected(&mut self.line, &self.selection, frames);
         self.core.set_pending(next);
         Some(frame)
@@ -327,7 +319,7 @@ impl<S: Selection + Drop> Stage for Selected<S> {
         let Some(enough) = self.selection.enough() else {
             return false;
         };
-        !self.core.is_pending() && enough <= taken_of(&self.core)
+        !self.core.is_pending() && enough <= self.core.taken()
     }
 
     fn held(&self) -> u64 {
@@ -364,7 +356,7 @@ impl<S: Selection + Drop> PassesMany for Selected<S> {
         }
         let lined = self.line.len();
         let free = self.line.capacity() - lined;
-        let taken = taken_of(&self.core);
+        let taken = self.core.taken();
         let place = taken - lined as u64;
         let frame_run = self.selection.frame_run_from(place);
         let ahead = frame_run
@@ -396,7 +388,7 @@ impl<S: Selection + Drop> Feeds for Selected<S> {
 
     #[inline(always)]
     fn pass_samples(&mut self, samples: &mut [i32]) -> Passing {
-        let place = taken_of(&self.core) - self.line.len() as u64;
+        let place = self.core.taken() - self.line.len() as u64;
         self.core.take();
         let is_out = push_over(&mut self.line, samples);
         let _held = self.line.len();
@@ -413,7 +405,7 @@ impl<S: Selection + Drop> Feeds for Selected<S> {
     /// As many are due as come, so the line has no space for one more, and each frame that falls out of it is given.
     fn pass_frames(&mut self, count: usize, samples: &mut [i32]) {
         let channels = self.selection.channels();
-        let place = taken_of(&self.core) - self.line.len() as u64;
+        let place = self.core.taken() - self.line.len() as u64;
         see_samples(samples);
         exchange_full(&mut self.line, channels, samples, count);
         see_samples(samples);
@@ -427,7 +419,7 @@ impl<S: Selection + Drop> Feeds for Selected<S> {
     /// None is due for the frames that fill its line, and those that push omitted ones out of it. Once the line is full, it gives
     /// one for each of those that push given ones out of it.
     fn forecast(&self) -> Forecast {
-        let taken = taken_of(&self.core);
+        let taken = self.core.taken();
         let reach = self.line.capacity() as u64;
         let free = reach.saturating_sub(taken);
         let frame_run = self.selection.frame_run_from(taken.saturating_sub(reach));
@@ -472,7 +464,7 @@ impl<S: Selection + Drop> PassesEarly for Selected<S> {
         output: &mut [i32],
     ) {
         let channels = self.selection.channels();
-        let place = taken_of(&self.core) - self.line.len() as u64;
+        let place = self.core.taken() - self.line.len() as u64;
         see_samples(input);
         self.line.pop_frames(count, output);
         self.selection.select_many(output, channels, count, place);

@@ -83,6 +83,14 @@ impl StageCore {
         }
     }
 
+    /// How many frames the stage took.
+    #[inline(always)]
+    pub fn taken(&self) -> u64
+        ensures { result ≡ self.now.taken }
+    {
+        self.taken
+    }
+
     /// Whether it was given the end.
     #[inline(always)]
     pub fn is_ended(&self) -> bool

@@ -742,7 +742,7 @@ impl Feeds for Fir {
     }
 
     fn forecast(&self) -> Forecast {
-        if self.core.counter_values().taken < centre_of(self.kernel.len()) as u64 {
+        if self.core.taken() < centre_of(self.kernel.len()) as u64 {
             return Forecast::endless(0);
         }
         Forecast::endless(u64::MAX)

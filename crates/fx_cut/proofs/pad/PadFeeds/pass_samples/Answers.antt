@@ -18,7 +18,7 @@ passes c =
     let below = may.below_limit in
     let known : (c.self.inside.line.capacity ≡ 0) × (silent_at (pads_from_start c.self.inside.pads) c.self.inside.core.taken ≡ 0) =
     elim c.if-capacity-eq0.branch [
-      | then-capacity-eq0 w ↦ (sym c.capacity.ensures.capacity ∙ w.if-capacity-eq0.true, (rw c.counter_values-place.ensures at w.is_clear-is_known.ensures) (sym w.is_known-is ∙ c.if-is_known.true))
+      | then-capacity-eq0 w ↦ (sym c.capacity.ensures.capacity ∙ w.if-capacity-eq0.true, (rw c.taken-place.ensures at w.is_clear-is_known.ensures) (sym w.is_known-is ∙ c.if-is_known.true))
       | else-capacity-eq0 w ↦ absurd (let none : c.capacity.result ≡ 0 = eqb-true c.capacity.result 0 (sym w.is_known-is ∙ c.if-is_known.true) in omega (arith, none, w.if-capacity-eq0.false))
     ] in
     let a : AreClear (view c.self.inside) 1 = record {

@@ -31,7 +31,7 @@ clear_frames c =
     let there = cut c in
     let read = c.copy_frames-copied.ensures.read in
     let fewer : n ≤ count = bound-pieces n count ch (rw (← c.self.view_is) at c.requires.channels.0) (omega (arith, read, there.1)) in
-    let clear_frames = rw (c.all.ensures, c.counter_values-first.ensures) at c.clear_frames_from-clear_frames.ensures in
+    let clear_frames = rw (c.all.ensures, c.taken-first.ensures) at c.clear_frames_from-clear_frames.ensures in
     let ahead : n ≤ c.clear_frames_from-clear_frames.result = omega (arith, fewer, c.min-count.ensures) in
     record {
       is = c.self.invariant;

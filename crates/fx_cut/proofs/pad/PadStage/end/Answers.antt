@@ -12,7 +12,7 @@ pub invariant_of-self : goal.invariant_of-self
 invariant_of-self c =
     let e = c.next_padded-silent.ensures in
     let ended = counted (goal.at.invariant_of-self c).After-set_pending in
-    let silent_frames = rw (c.all.ensures, c.counter_values-frames.ensures, ended) at e.silent in
+    let silent_frames = rw (c.all.ensures, c.taken-frames.ensures, ended) at e.silent in
     let dry = rw (← c.self.view_is) at c.requires.dry in
     let running = rw (← c.self.view_is) at c.requires.not_ended in
     rw (c.set_pending.ensures, ended)
@@ -22,7 +22,7 @@ pub returns : goal.returns
 returns c =
     let e = c.next_padded-silent.ensures in
     let ended = counted (goal.at.returns c).After-set_pending in
-    let silent_frames = rw (c.all.ensures, c.counter_values-frames.ensures, ended) at e.silent in
+    let silent_frames = rw (c.all.ensures, c.taken-frames.ensures, ended) at e.silent in
     let dry = rw (← c.self.view_is) at c.requires.dry in
     let running = rw (← c.self.view_is) at c.requires.not_ended in
     rw (← c.self.view_is, c.set_pending.ensures, ended) (Ended-pad _ _ _ _ _ _ _ c.self.invariant refl c.self.invariant.core.no_clips e.oldest e.items silent_frames dry running refl)

@@ -24,7 +24,7 @@ pub invariant_of-self-2 : goal.invariant_of-self-2
 invariant_of-self-2 c =
     let e = c.next_padded-silent.ensures in
     let same = given (goal.at.invariant_of-self-2 c).After-set_pending in
-    let silent_frames = rw (c.all.ensures, c.counter_values-frames.ensures, same) at e.silent in
+    let silent_frames = rw (c.all.ensures, c.taken-frames.ensures, same) at e.silent in
     let none : c.self.inside.silent ≡ 0 = omega arith in
     let ended = was-ended (goal.at.invariant_of-self-2 c).After-set_pending in
     let no_clips : c.self.inside.core.clips + c.self.inside.core.pending_clips ≡ 0 = omega arith in
@@ -35,7 +35,7 @@ pub returns : goal.returns
 returns c =
     let e = c.next_padded-silent.ensures in
     let same = given (goal.at.returns c).After-set_pending in
-    let silent_frames = rw (c.all.ensures, c.counter_values-frames.ensures, same) at e.silent in
+    let silent_frames = rw (c.all.ensures, c.taken-frames.ensures, same) at e.silent in
     let none : c.self.inside.silent ≡ 0 = omega arith in
     let ended = was-ended (goal.at.returns c).After-set_pending in
     let no_clips : c.self.inside.core.clips + c.self.inside.core.pending_clips ≡ 0 = omega arith in

@@ -18,7 +18,7 @@ pub invariant_of-self-2 : goal.invariant_of-self-2
 invariant_of-self-2 c =
     let dry = rw (← c.self.view_is) at c.requires.dry in
     let running = rw (← c.self.view_is) at c.requires.not_ended in
-    let silent_frames = rw (c.len.ensures.count, c.counter_values.ensures) at c.silence_at-self-inside.ensures.silent in
+    let silent_frames = rw (c.len.ensures.count, c.taken.ensures) at c.silence_at-self-inside.ensures.silent in
     let fits = oldest-fits _ _ c.args.frame c.in-Some.oldest c.self.invariant.line c.self.invariant.channels c.in-Some.ensures.oldest (rw (← c.self.view_is) at c.requires.channels) c.channels-channels.ensures.frame in
     rw (c.silence_at-self-inside.ensures.same, c.set_pending.ensures, c.take.ensures)
     (IsPad-fallen _ c.args.frame c.self.invariant dry running _ c.in-Some.oldest _ c.in-Some.ensures.oldest c.in-Some.ensures.items
@@ -26,6 +26,6 @@ invariant_of-self-2 c =
 
 pub returns : goal.returns
 returns c =
-    let silent_frames = rw (c.len.ensures.count, c.counter_values.ensures) at c.silence_at-self-inside.ensures.silent in
+    let silent_frames = rw (c.len.ensures.count, c.taken.ensures) at c.silence_at-self-inside.ensures.silent in
     rw (c.silence_at-self-inside.ensures.same, ← c.self.view_is, c.set_pending.ensures, c.take.ensures)
     (Took-fallen _ c.args.frame c.self.invariant (rw (← c.self.view_is) at c.requires.dry) (rw (← c.self.view_is) at c.requires.not_ended) _ c.in-Some.oldest _ c.in-Some.ensures.oldest c.in-Some.ensures.items silent_frames)

@@ -62,7 +62,7 @@ passes g c =
     let a = one_to_one-alike selects g.S.Selection.determined s n c.self.invariant may.not_ended may.one_to_one empty may.ahead may.below_limit in
     let full = one_to_one-full selects g.S.Selection.determined s n c.self.invariant may.not_ended may.one_to_one in
     let delivered = c.exchange_full.ensures in
-    let made = rw (c.taken_of.ensures, c.len.ensures.count, width) at c.select_many.ensures.frames in
+    let made = rw (c.taken.ensures, c.len.ensures.count, width) at c.select_many.ensures.frames in
     let long : length c.select_many.new.samples ≡ n * selects.channels c.self.inside.selection = c.select_many.ensures.len ∙ delivered.len ∙ may.samples in
     group-passed selects g.S.Selection.determined s n c.exchange_full.new.line c.args.samples.now c.exchange_full.new.samples c.select_many.new.samples a full may.samples c.see_samples.ensures delivered.items delivered.capacity delivered.channels delivered.fallen made c.select_many.ensures.fit long
 

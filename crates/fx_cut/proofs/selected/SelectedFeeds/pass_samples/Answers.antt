@@ -14,7 +14,7 @@ out : (g : given.Over) (c : Then-not-select_over g) → let s = state c.self.ins
 out g c =
     let may = rw (← c.self.view_is) at c.requires in
     let pushed = c.if-not-is_out.ensures in
-    let left = rw (c.taken_of.ensures, c.len.ensures.count) at c.if-not-select_over.ensures.given in
+    let left = rw (c.taken.ensures, c.len.ensures.count) at c.if-not-select_over.ensures.given in
     passed-out g.S.Selection.selects g.S.Selection.determined _ c.args.samples.now c.select_over.new.samples c.self.invariant may.dry may.not_ended may.not_spent c.push_over-is_out.new.line pushed.items c.len-held.ensures.line pushed.capacity pushed.channels may.below_limit c.push_over-is_out.new.samples (sym pushed.oldest) (sym left)
 
 pub returns-then-not-select_over-clause-passed : goal.returns-then-not-select_over-clause-passed
@@ -33,8 +33,8 @@ oldest g c =
     let may = rw (← c.self.view_is) at c.requires in
     let pushed = c.if-not-is_out.ensures in
     let delivered = c.if-not-select_over.ensures in
-    let here = rw (c.taken_of.ensures, c.len.ensures.count) at delivered.given in
-    let made = rw (c.taken_of.ensures, c.len.ensures.count) at (delivered.samples refl) in
+    let here = rw (c.taken.ensures, c.len.ensures.count) at delivered.given in
+    let made = rw (c.taken.ensures, c.len.ensures.count) at (delivered.samples refl) in
     let framed = pushed.frame refl in
     let long = delivered.len in
     passed-given g.S.Selection.selects g.S.Selection.determined _ c.args.samples.now c.select_over.new.samples c.self.invariant may.dry may.not_ended may.not_spent c.push_over-is_out.new.line pushed.items c.len-held.ensures.line pushed.capacity pushed.channels may.below_limit c.push_over-is_out.new.samples c.select_over.new.samples (sym pushed.oldest) (sym here) made (long ∙ pushed.len ∙ may.channels)

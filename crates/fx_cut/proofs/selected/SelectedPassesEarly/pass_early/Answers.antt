@@ -38,7 +38,7 @@ passes g c =
     let many : length (pieces s.line.channels n c.args.input.now) ≡ n = length-pieces s.line.channels n c.args.input.now in
     let items : c.push_frames.new.self.items ≡ pushed_all s.line (pieces s.line.channels n c.args.input.now) = rw popped.channels at came.items ∙ popped-pushed s.line c.pop_frames.new.self (pieces s.line.channels n c.args.input.now) n popped.items popped.capacity many held (full may.some) in
     let fell : pieces s.line.channels n c.pop_frames.new.out ≡ take n (s.line.items ++ pieces s.line.channels n c.args.input.now) = popped.oldest ∙ sym (take-append-le n s.line.items (pieces s.line.channels n c.args.input.now) held) in
-    let made = rw (c.taken_of.ensures, c.len.ensures.count, width) at c.select_many.ensures.frames in
+    let made = rw (c.taken.ensures, c.len.ensures.count, width) at c.select_many.ensures.frames in
     let long : length c.select_many.new.samples ≡ n * selects.channels c.self.inside.selection = c.select_many.ensures.len ∙ c.pop_frames.auto.out ∙ may.free ∙ may.long in
     group-passed selects g.S.Selection.determined s n c.push_frames.new.self c.args.input.now c.pop_frames.new.out c.select_many.new.samples a full may.long c.see_samples.ensures items (came.capacity ∙ popped.capacity) (came.channels ∙ popped.channels) fell made c.select_many.ensures.fit long
 

@@ -86,13 +86,13 @@ passes g c =
     let out = fell g (goal.at.invariant_of-self g c).After-push_frames in
     let low = c.self.invariant.within in
     let below = rw (← c.self.view_is, ← width) at c.requires.below_limit in
-    let at : c.taken_of-taken.result - c.len-lined.result ≡ c.self.inside.core.taken - length c.self.inside.line.items = omega arith in
+    let at : c.taken-taken.result - c.len-lined.result ≡ c.self.inside.core.taken - length c.self.inside.line.items = omega arith in
     let a : Alike selects c.frame_run_from-frame_run.result.is_given s n = record {
       is = c.self.invariant;
       empty = none-of c.self.inside.core.pending (search rules);
       running = search rules;
       gives = λ i h. let within = c.self.invariant.line.within in let alike = c.frame_run_from-frame_run.ensures.alike i (omega arith) in rw at at alike;
-      wanted = λ i h. let enough = c.wanted.ensures i (omega arith) in rw (c.enough.ensures, c.taken_of-taken.ensures) at enough;
+      wanted = λ i h. let enough = c.wanted.ensures i (omega arith) in rw (c.enough.ensures, c.taken-taken.ensures) at enough;
       bound = below n fits.read;
     } in
     let made = rw (at, width) at c.select_many.ensures.frames in

@@ -13,4 +13,4 @@ invariant_of-self g c =
     let next = c.next_selected-next.ensures in
     let e : c.self.inside.core.given ≡ c.self.inside.core.given + length (pending_frames c.self.inside.core) = omega arith in
     rw (c.set_pending.ensures, c.end.ensures)
-    (IsSelect-over g.S.Selection.selects _ _ _ c.self.inside.core.given is (omega arith) (e ∙ due) (rw c.taken_of-frames.ensures at next.given) next.empty next.bound next.pending next.line next.capacity next.channels)
+    (IsSelect-over g.S.Selection.selects _ _ _ c.self.inside.core.given is (omega arith) (e ∙ due) (rw c.taken-frames.ensures at next.given) next.empty next.bound next.pending next.line next.capacity next.channels)

@@ -7,4 +7,4 @@ use Rattle.fx_cut.proofs.selected.SelectedStage.is_spent.Goals as goal
 pub returns-then-not-is_pending-clause-nothing : goal.returns-then-not-is_pending-clause-nothing
 returns-then-not-is_pending-clause-nothing g c = λ enough z.
     let late = leb-true _ _ enough in
-    rw (← c.self.view_is) (spent-rest g.S.Selection.selects g.S.Selection.determined _ _ c.self.invariant (none-of c.self.inside.core.pending (search rules)) (sym c.enough.ensures ∙ c.in-Some.is) (omega (arith, late, c.taken_of.ensures)) z)
+    rw (← c.self.view_is) (spent-rest g.S.Selection.selects g.S.Selection.determined _ _ c.self.invariant (none-of c.self.inside.core.pending (search rules)) (sym c.enough.ensures ∙ c.in-Some.is) (omega (arith, late, c.taken.ensures)) z)

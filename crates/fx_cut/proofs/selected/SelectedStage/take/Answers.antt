@@ -19,7 +19,7 @@ invariant_of-self-2 g c =
     let dry = rw (← c.self.view_is) at c.requires.dry in
     let running = rw (← c.self.view_is) at c.requires.not_ended in
     let delivered = c.select.ensures in
-    let kept = rw (c.taken_of-taken.ensures, c.len.ensures.count) at delivered.value in
+    let kept = rw (c.taken-taken.ensures, c.len.ensures.count) at delivered.value in
     let long = oldest-length _ _ c.args.frame c.in-Some.oldest c.self.invariant.line c.self.invariant.channels c.in-Some.ensures.oldest (rw (← c.self.view_is) at c.requires.channels) in
     let fits = rw long at delivered.fits in
     rw (delivered.same, c.set_pending.ensures, c.take.ensures)
@@ -29,6 +29,6 @@ invariant_of-self-2 g c =
 pub returns : goal.returns
 returns g c =
     let delivered = c.select.ensures in
-    let kept = rw (c.taken_of-taken.ensures, c.len.ensures.count) at delivered.value in
+    let kept = rw (c.taken-taken.ensures, c.len.ensures.count) at delivered.value in
     rw (delivered.same, ← c.self.view_is, c.set_pending.ensures, c.take.ensures)
     (Took-fallen g.S.Selection.selects g.S.Selection.determined _ c.args.frame c.self.invariant (rw (← c.self.view_is) at c.requires.dry) (rw (← c.self.view_is) at c.requires.not_ended) _ c.in-Some.oldest _ c.in-Some.ensures.oldest c.in-Some.ensures.items kept)

@@ -8,6 +8,6 @@ pub returns : goal.returns
 returns c =
     let s = c.self.inside in
     let late : centre (length (reverse s.kernel)) ≡ centre (length s.kernel) = ap centre (length-reverse s.kernel) in
-    let taken = rw c.counter_values.ensures at c.if-counter_values-centre_of.false in
+    let taken = rw c.taken.ensures at c.if-taken-centre_of.false in
     let full : centre (length s.kernel) ≤ s.core.taken = omega (arith, taken, c.centre_of.ensures, c.len.ensures) in
     rw (c.endless-2.ensures, ← c.self.view_is) (IsForecast-endless _ _ _ refl (λ n bound. omega (arith, late, full)))
