@@ -7,7 +7,7 @@ use Rattle.std.proofs.lemmas.Int.{fits_signed_from_abs}
 use Rattle.std.proofs.lemmas.List.{length-append, length-drop, length-map, get_or-map}
 use Rattle.std.proofs.lemmas.List.Elements.{All-nil, All-drop, All-push, All-weaker, All-from_get_or, All-get_or}
 use Rattle.fx_tap_delays.specs.DelayExtents.{sum_of_delays, Tap}
-use Rattle.fx_frame_base.specs.Frame.{Samples, silence, IsFrame}
+use Rattle.fx_frame_base.specs.Frame.{IsChannelCount, Samples, silence, IsFrame}
 use Rattle.fx_frame_line.specs.Line.{Frames, IsSamples, pushed_out, empty}
 use Rattle.fx_frame_base.specs.Stage.{Gave}
 use Rattle.fx_frame_base.specs.StageCore.{new_core}
@@ -216,9 +216,9 @@ late-each [] k d lt = absurd (omega arith)
 late-each (e ∷ es) zero d lt = omega arith
 late-each (e ∷ es) (suc k) d lt = let more = late-each es k d (omega arith) in omega arith
 
-empty-line : (c j d : ℕ) → 1 ≤ c → c ≤ 16 → 1 ≤ d → d ≤ 2 ^ 28 → IsEchoLine c 0 j d (empty c d)
-empty-line c j d some bound late small = record {
-  line = record { some = some; bound = bound; small = small; within = omega arith; frames = All-nil (IsSamples w64 c) };
+empty-line : (c j d : ℕ) → IsChannelCount c → 1 ≤ d → d ≤ 2 ^ 28 → IsEchoLine c 0 j d (empty c d)
+empty-line c j d channels late small = record {
+  line = record { some = channels.0; bound = channels.1; small = small; within = omega arith; frames = All-nil (IsSamples w64 c) };
   channels_are = refl;
   capacity = refl;
   some = late;
@@ -236,7 +236,7 @@ IsEchos-new a is whole = record {
       let within : j < length a.echo.taps = omega (arith, long, lt) in
       let maximum = late-each a.echo.taps j (0, pos 0) within in
       rw (get_or-map (λ e. empty {X = ℤ} a.channels e.0) a.echo.taps j (0, pos 0) (empty {X = ℤ} 0 0) within)
-      (empty-line a.channels j (delay_at a.echo.taps j) is.some is.bound (All-get_or (λ e. 1 ≤ e.0) a.echo.taps j (0, pos 0) within is.delays) (omega arith));
+      (empty-line a.channels j (delay_at a.echo.taps j) is.channels (All-get_or (λ e. 1 ≤ e.0) a.echo.taps j (0, pos 0) within is.delays) (omega arith));
   counted = refl;
   not_ended = λ e. refl;
   core = record {

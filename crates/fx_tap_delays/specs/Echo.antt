@@ -6,7 +6,7 @@ use Rattle.fx_fixed.specs.Extents.{largest}
 use Rattle.fx_tap_delays.specs.DelayExtents.{Tap, tap_delay}
 use Rattle.fx_fixed.specs.Rounding.{rounding}
 use Rattle.fx_fixed.specs.declared.gains.TheConstants.{UNIT}
-use Rattle.fx_frame_base.specs.Frame.{Samples}
+use Rattle.fx_frame_base.specs.Frame.{IsChannelCount, Samples}
 use Rattle.fx_frame_base.specs.Stage.{Given, StageKind}
 use Rattle.fx_frame_base.specs.Lists.{tabulate}
 use Rattle.fx_frame_base.specs.Given.{given_samples}
@@ -33,13 +33,17 @@ pub record EchoArguments : Type 0 where
 abbrev pub echo_with : ℕ → ℤ → ℤ → List Tap → EchoArguments
 echo_with channels gain_in gain_out taps = record { channels = channels; echo = record { gain_in = gain_in; gain_out = gain_out; taps = taps } }
 
--- its invariant
+-- the limits of the arguments of a stage
 pub record IsEcho (a : EchoArguments) : Type 0 where
-  pub some : 1 ≤ a.channels
-  pub bound : a.channels ≤ 16
+  -- a frame has 1 to 16 channels
+  pub channels : IsChannelCount a.channels
+  -- gain-in is at most 1 in magnitude
   pub gain_in : unsigned_abs a.echo.gain_in ≤ UNIT
+  -- there are at most 7 echoes
   pub taps_max : length a.echo.taps ≤ 7
+  -- each echo comes at least one frame after its frame
   pub delays : All (λ e. 1 ≤ e.0) a.echo.taps
+  -- each decay is at most 1 in magnitude
   pub decays : All (λ e. unsigned_abs e.1 ≤ UNIT) a.echo.taps
 
 -- the echoes of channel k, added

@@ -31,13 +31,14 @@ pub struct Delays {
 }
 
 impl Model for Delays {
-    ghost use Rattle.std.specs.Prelude.{◌≤◌, ℕ, List, length};
+    ghost use Rattle.std.specs.Prelude.{ℕ, List, length};
+    ghost use Rattle.fx_frame_base.specs.Frame.{IsChannelCount};
 
     ghost Value = { List ℕ };
 
     ghost view = { λ s. s.delays.items };
 
-    ghost invariant = { λ s. (1 ≤ length s.delays.items) × (length s.delays.items ≤ 16) };
+    ghost invariant = { λ s. IsChannelCount (length s.delays.items) };
 }
 
 /// Writes the samples of the frame whose channels are delayed.
@@ -53,7 +54,7 @@ fn delayed_into(line: &Line, delays: &[u64], frame: &[i32], out: &mut [i32])
 
 /// The frame whose channels are delayed.
 fn delayed_frame(line: &Line, delays: &[u64], frame: Frame) -> Frame
-    requires { (1 ≤ length delays.now) × (length delays.now ≤ 16) }
+    requires { IsChannelCount (length delays.now) }
     ensures value { result ≡ delayed_frame delays.now (history_after line.now.items frame) }
     ensures frame { IsFrame result × (length result ≡ length delays.now) }
 {
@@ -235,7 +236,7 @@ const MIN_PIECE: usize = 8;
 /// The maximum number of frames of a piece: few enough to stay in the first-level cache from channel to channel; and a channel
 /// that is delayed is delayed by at least as many.
 fn frames_of_piece(delays: &[u64]) -> usize
-    requires { (1 ≤ length delays.now) × (length delays.now ≤ 16) }
+    requires { IsChannelCount (length delays.now) }
     ensures some { 1 ≤ result }
     ensures late { NoShorterDelay result delays.now }
 {
@@ -250,7 +251,7 @@ fn frames_of_piece(delays: &[u64]) -> usize
 
 /// Writes `count` frames that follow those of the line, each channel delayed by its delay. No channel has a shorter delay.
 fn delay_piece(delays: &[u64], line: &Line, frames: &[i32], count: usize, out: &mut [i32])
-    requires some { (1 ≤ length delays.now) × (length delays.now ≤ 16) }
+    requires some { IsChannelCount (length delays.now) }
     requires channels { line.now.channels ≡ length delays.now }
     requires late { NoShorterDelay count delays.now }
     requires frames { length frames.now ≡ count * length delays.now }
@@ -276,7 +277,7 @@ fn delay_pieces(
     output: &mut [i32],
     count: usize,
 )
-    requires some { (1 ≤ length delays.now) × (length delays.now ≤ 16) }
+    requires some { IsChannelCount (length delays.now) }
     requires channels { line.old.channels ≡ length delays.now }
     requires capacity { line.old.capacity ≡ largest delays.now }
     requires maximum { 1 ≤ maximum }

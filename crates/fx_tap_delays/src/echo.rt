@@ -217,11 +217,8 @@ impl Tapped<PreparedEcho> {
         gain_out: Gain,
         taps: &[(u64, Gain)],
     ) -> Result<Echo, AllocError>
-        requires channels { IsChannelCount channels }
-        requires gain_in { unsigned_abs gain_in ≤ UNIT }
-        requires taps { (1 ≤ length taps.now) × (length taps.now ≤ 7) }
-        requires delays { All (λ e. 1 ≤ e.0) taps.now }
-        requires decays { All (λ e. unsigned_abs e.1 ≤ UNIT) taps.now }
+        requires arguments { IsEcho (echo_with channels gain_in gain_out taps.now) }
+        requires some_tap { 1 ≤ length taps.now }
         requires line { largest (map tap_delay taps.now) ≤ 2 ^ 28 }
         ensures { IfOk result (IsNew echo_acts (echo_with channels gain_in gain_out taps.now)) }
     {
@@ -242,11 +239,8 @@ impl Tapped<PreparedEcho> {
         frames: &[WideFrame],
         numbers: &[u64; 8],
     ) -> Result<Echo, ThawFault>
-        requires channels { IsChannelCount channels }
-        requires gain_in { unsigned_abs gain_in ≤ UNIT }
-        requires taps { (1 ≤ length taps.now) × (length taps.now ≤ 7) }
-        requires delays { All (λ e. 1 ≤ e.0) taps.now }
-        requires decays { All (λ e. unsigned_abs e.1 ≤ UNIT) taps.now }
+        requires arguments { IsEcho (echo_with channels gain_in gain_out taps.now) }
+        requires some_tap { 1 ≤ length taps.now }
         requires line { largest (map tap_delay taps.now) ≤ 2 ^ 28 }
         ensures recipe { IfOk result (λ t. echo_acts.recipe t ≡ echo_with channels gain_in gain_out taps.now) }
         ensures frozen { IfOk result (λ t. Freezes echo_acts t frames.now numbers.now) }

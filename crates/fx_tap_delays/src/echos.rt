@@ -6,7 +6,7 @@ ghost use Rattle.fx_frame_base.specs.Frame.{IsChannelCount, IsFrame, silence};
 ghost use Rattle.fx_frame_line.specs.Line.{empty, pushed_out};
 ghost use Rattle.fx_frame_base.specs.Lists.{pieces};
 ghost use Rattle.fx_frame_base.specs.Stage.{Freezes, IsNew};
-ghost use Rattle.fx_tap_delays.specs.Echo.{EchoArguments, echo_with};
+ghost use Rattle.fx_tap_delays.specs.Echo.{EchoArguments, IsEcho, echo_with};
 ghost use Rattle.fx_tap_delays.specs.Echos.{decays};
 ghost use Rattle.fx_tap_delays.specs.EchosState.{EchosState, IsEchos, after_push, echos_acts, fed, frames_of_lines, line_outputs, lines_after, or_silence, series_lines_after, AreEchoLines, AreSeriesLines, HaveCapacity, decayed_sum, frame_from_lines, SendsThrough, clips_through, AreLineSums, RestoresEchos};
 ghost use Rattle.fx_tap_delays.specs.EchosStored.{AreEchosCounts};
@@ -287,12 +287,10 @@ fn wide_over(
     gains: (Gain, Gain),
     samples: &mut [i32],
 ) -> u64
-    requires channels { IsChannelCount channels }
+    requires arguments { IsEcho (echo_with channels gains.0 gains.1 taps.now) }
     requires frame { length samples.old ≡ channels }
-    requires count { (length lines.old ≡ length taps.now) × (length lines.old ≤ 7) }
+    requires count { length lines.old ≡ length taps.now }
     requires lines { AreSeriesLines channels lines.old }
-    requires gain_in { unsigned_abs gains.0 ≤ UNIT }
-    requires decays { All (λ e. unsigned_abs e.1 ≤ UNIT) taps.now }
     ensures lines { lines.new ≡ lines_after channels lines.old samples.old (silence channels) }
     ensures frame { samples.new ≡ (frame_from_lines (echo_with channels gains.0 gains.1 taps.now) lines.old samples.old).samples }
     ensures clips { result ≡ (frame_from_lines (echo_with channels gains.0 gains.1 taps.now) lines.old samples.old).clips }
@@ -317,14 +315,12 @@ fn echo_over(
     gains: (Gain, Gain),
     samples: &mut [i32],
 ) -> u64
-    requires channels { IsChannelCount channels }
+    requires arguments { IsEcho (echo_with channels gains.0 gains.1 taps.now) }
     requires frame { length samples.old ≡ channels }
-    requires count { (length lines.old ≡ length taps.now) × (length lines.old ≤ 7) }
+    requires count { length lines.old ≡ length taps.now }
     requires lines { AreSeriesLines channels lines.old }
     requires late { HaveCapacity 1 lines.old }
     requires small { IfSome small.now (Suits (echo_with channels gains.0 gains.1 taps.now)) }
-    requires gain_in { unsigned_abs gains.0 ≤ UNIT }
-    requires decays { All (λ e. unsigned_abs e.1 ≤ UNIT) taps.now }
     ensures lines { lines.new ≡ lines_after channels lines.old samples.old (silence channels) }
     ensures frame { samples.new ≡ (frame_from_lines (echo_with channels gains.0 gains.1 taps.now) lines.old samples.old).samples }
     ensures clips { result ≡ (frame_from_lines (echo_with channels gains.0 gains.1 taps.now) lines.old samples.old).clips }
@@ -348,12 +344,10 @@ fn echo_over_by_frames(
     samples: &mut [i32],
     count: usize,
 ) -> u64
-    requires channels { IsChannelCount channels }
-    requires taps { (length lines.old ≡ length taps.now) × (length lines.old ≤ 7) }
+    requires arguments { IsEcho (echo_with channels gains.0 gains.1 taps.now) }
+    requires taps { length lines.old ≡ length taps.now }
     requires lines { (came : ℕ) × AreEchoLines channels came taps.now lines.old }
     requires small { IfSome small.now (Suits (echo_with channels gains.0 gains.1 taps.now)) }
-    requires gain_in { unsigned_abs gains.0 ≤ UNIT }
-    requires decays { All (λ e. unsigned_abs e.1 ≤ UNIT) taps.now }
     requires bound { count ≤ 2 ^ 56 }
     requires samples { length samples.old ≡ count * channels }
     ensures lines { lines.new ≡ series_lines_after channels lines.old (pieces channels count samples.old) }
@@ -382,12 +376,10 @@ fn echo_frames(
     samples: &mut [i32],
     count: usize,
 ) -> u64
-    requires channels { IsChannelCount channels }
-    requires taps { (length lines.old ≡ length taps.now) × (length lines.old ≤ 7) }
+    requires arguments { IsEcho (echo_with channels gains.0 gains.1 taps.now) }
+    requires taps { length lines.old ≡ length taps.now }
     requires lines { (came : ℕ) × AreEchoLines channels came taps.now lines.old }
     requires small { IfSome small.now (Suits (echo_with channels gains.0 gains.1 taps.now)) }
-    requires gain_in { unsigned_abs gains.0 ≤ UNIT }
-    requires decays { All (λ e. unsigned_abs e.1 ≤ UNIT) taps.now }
     requires bound { count ≤ 2 ^ 56 }
     requires samples { length samples.old ≡ count * channels }
     ensures lines { lines.new ≡ series_lines_after channels lines.old (pieces channels count samples.old) }
@@ -417,14 +409,12 @@ fn echoed(
     gains: (Gain, Gain),
     frame: Frame,
 ) -> (Frame, u64)
-    requires channels { IsChannelCount channels }
+    requires arguments { IsEcho (echo_with channels gains.0 gains.1 taps.now) }
     requires frame { length frame ≡ channels }
-    requires count { (length lines.old ≡ length taps.now) × (length lines.old ≤ 7) }
+    requires count { length lines.old ≡ length taps.now }
     requires lines { AreSeriesLines channels lines.old }
     requires late { HaveCapacity 1 lines.old }
     requires small { IfSome small.now (Suits (echo_with channels gains.0 gains.1 taps.now)) }
-    requires gain_in { unsigned_abs gains.0 ≤ UNIT }
-    requires decays { All (λ e. unsigned_abs e.1 ≤ UNIT) taps.now }
     ensures lines { lines.new ≡ lines_after channels lines.old frame (silence channels) }
     ensures frame { result.0 ≡ (frame_from_lines (echo_with channels gains.0 gains.1 taps.now) lines.old frame).samples }
     ensures clips { result.1 ≡ (frame_from_lines (echo_with channels gains.0 gains.1 taps.now) lines.old frame).clips }
@@ -494,11 +484,8 @@ impl Echos {
         gain_out: Gain,
         taps: &[(u64, Gain)],
     ) -> Result<Echos, AllocError>
-        requires channels { IsChannelCount channels }
-        requires gain_in { unsigned_abs gain_in ≤ UNIT }
-        requires taps { (1 ≤ length taps.now) × (length taps.now ≤ 7) }
-        requires delays { All (λ e. 1 ≤ e.0) taps.now }
-        requires decays { All (λ e. unsigned_abs e.1 ≤ UNIT) taps.now }
+        requires arguments { IsEcho (echo_with channels gain_in gain_out taps.now) }
+        requires some_tap { 1 ≤ length taps.now }
         requires lines { sum_of_delays taps.now ≤ 2 ^ 28 }
         ensures { IfOk result (IsNew echos_acts (echo_with channels gain_in gain_out taps.now)) }
     {
@@ -554,11 +541,8 @@ impl Echos {
         frames: &[WideFrame],
         numbers: &[u64; 8],
     ) -> Result<Echos, ThawFault>
-        requires channels { IsChannelCount channels }
-        requires gain_in { unsigned_abs gain_in ≤ UNIT }
-        requires taps { (1 ≤ length taps.now) × (length taps.now ≤ 7) }
-        requires delays { All (λ e. 1 ≤ e.0) taps.now }
-        requires decays { All (λ e. unsigned_abs e.1 ≤ UNIT) taps.now }
+        requires arguments { IsEcho (echo_with channels gain_in gain_out taps.now) }
+        requires some_tap { 1 ≤ length taps.now }
         requires lines { sum_of_delays taps.now ≤ 2 ^ 28 }
         ensures recipe { IfOk result (λ t. echos_acts.recipe t ≡ echo_with channels gain_in gain_out taps.now) }
         ensures frozen { IfOk result (λ t. Freezes echos_acts t frames.now numbers.now) }

@@ -44,18 +44,6 @@ returns-in-Delay c =
 pub new-requires-in-Delay-clause-line : goal.new-requires-in-Delay-clause-line
 new-requires-in-Delay-clause-line c = grind (arith, common_steps)
 
-pub new-requires-in-Echo-clause-delays : goal.new-requires-in-Echo-clause-delays
-new-requires-in-Echo-clause-delays c = grind (arith, common_steps)
-
-pub new-requires-in-Echo-clause-decays : goal.new-requires-in-Echo-clause-decays
-new-requires-in-Echo-clause-decays c = grind (arith, common_steps)
-
-pub new-requires-in-Echos-clause-delays : goal.new-requires-in-Echos-clause-delays
-new-requires-in-Echos-clause-delays c = grind (arith, common_steps)
-
-pub new-requires-in-Echos-clause-decays : goal.new-requires-in-Echos-clause-decays
-new-requires-in-Echos-clause-decays c = grind (arith, common_steps)
-
 pub new-requires-in-Remix-clause-outs : goal.new-requires-in-Remix-clause-outs
 new-requires-in-Remix-clause-outs c = grind (arith, common_steps)
 

@@ -19,21 +19,22 @@ batch-sound ch came n delay first new samples bound size small went h j lt =
 
 pub echo_batch-requires-clause-late : goal.echo_batch-requires-clause-late
 echo_batch-requires-clause-late c j lt =
-    let inside : j < length c.args.taps.now = omega (arith, lt, c.requires.taps.0) in
+    let inside : j < length c.args.taps.now = omega (arith, lt, c.requires.taps) in
     let late = c.are_late.ensures c.if-are_late.true j (0, pos 0) inside in
     let full = (c.requires.lines.1 j lt).capacity in
     omega (arith, late, full)
 
 pub echo_batch-requires-else-samples-le-SAMPLES_OF_BATCH-clause-late : goal.echo_batch-requires-else-samples-le-SAMPLES_OF_BATCH-clause-late
 echo_batch-requires-else-samples-le-SAMPLES_OF_BATCH-clause-late c j lt =
-    let inside : j < length c.args.taps.now = omega (arith, lt, c.requires.taps.0) in
+    let inside : j < length c.args.taps.now = omega (arith, lt, c.requires.taps) in
     let late = c.are_late.ensures c.if-are_late.true j (0, pos 0) inside in
     let full = (c.requires.lines.1 j lt).capacity in
     omega (arith, late, full)
 
 pub returns-then-are_late-clause-sound : goal.returns-then-are_late-clause-sound
 returns-then-are_late-clause-sound c came h j lt =
+    let bound : length c.args.lines.now ≤ 7 = omega (arith, c.requires.arguments.taps_max) in
     elim c.if-samples-le-SAMPLES_OF_BATCH.branch [
-      | then-samples-le-SAMPLES_OF_BATCH w ↦ batch-sound c.args.channels came c.args.count (delay_at c.args.taps.now) c.args.lines.now c.if-samples-le-SAMPLES_OF_BATCH.lines c.args.samples.now c.requires.taps.1 c.requires.samples w.echo_batch.ensures.small (w.lines-is ∙ w.echo_batch.ensures.lines) h j lt
-      | else-samples-le-SAMPLES_OF_BATCH w ↦ batch-sound c.args.channels came c.args.count (delay_at c.args.taps.now) c.args.lines.now c.if-samples-le-SAMPLES_OF_BATCH.lines c.args.samples.now c.requires.taps.1 c.requires.samples w.echo_batch-else-samples-le-SAMPLES_OF_BATCH.ensures.small (w.lines-is ∙ w.echo_batch-else-samples-le-SAMPLES_OF_BATCH.ensures.lines) h j lt
+      | then-samples-le-SAMPLES_OF_BATCH w ↦ batch-sound c.args.channels came c.args.count (delay_at c.args.taps.now) c.args.lines.now c.if-samples-le-SAMPLES_OF_BATCH.lines c.args.samples.now bound c.requires.samples w.echo_batch.ensures.small (w.lines-is ∙ w.echo_batch.ensures.lines) h j lt
+      | else-samples-le-SAMPLES_OF_BATCH w ↦ batch-sound c.args.channels came c.args.count (delay_at c.args.taps.now) c.args.lines.now c.if-samples-le-SAMPLES_OF_BATCH.lines c.args.samples.now bound c.requires.samples w.echo_batch-else-samples-le-SAMPLES_OF_BATCH.ensures.small (w.lines-is ∙ w.echo_batch-else-samples-le-SAMPLES_OF_BATCH.ensures.lines) h j lt
     ]

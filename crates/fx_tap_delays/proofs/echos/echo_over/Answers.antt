@@ -24,7 +24,7 @@ returns-in-Some c =
     let x : Samples = c.args.samples.now in
     let ensured = c.echo_batch.ensures in
     let suits : Suits a c.in-Some.small = rw c.in-Some.is at c.requires.small in
-    let many = sym c.requires.count.0 in
+    let many = sym c.requires.count in
     let all : pieces c.args.channels 1 x ≡ x ∷ [] = ap (λ xs. xs ∷ []) (take_all c.args.channels x (omega (arith, c.requires.frame))) in
     let made : pieces c.args.channels 1 c.echo_batch.new.samples ≡ (frame_of_lines a x (line_outputs c.args.channels c.args.lines.now x (replicate c.args.channels (pos 0)))).samples ∷ [] =
     ensured.frames a suits refl many ∙ ap (λ xs. map (λ (g : Given). g.samples) (through_lines a c.args.lines.now xs)) all in

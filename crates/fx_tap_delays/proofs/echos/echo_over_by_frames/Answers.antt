@@ -48,7 +48,7 @@ frames-preserved c =
       sound = λ came h j lt.
           let inside : j < length (series_lines_after ch now (x ∷ [])) = omega (arith, lt, ap length lines) in
           let sum : came + turn + 1 ≡ came + (turn + 1) = omega arith in
-          let is = series_lines-sound ch (came + turn) (delay_at c.args.taps.now) now (x ∷ []) (omega (arith, c.frames.auto.lines, c.requires.taps.1)) (λ i l. let zero : i ≡ 0 = omega arith in rw zero ensured.small) (old.sound came h) j inside in
+          let is = series_lines-sound ch (came + turn) (delay_at c.args.taps.now) now (x ∷ []) (omega (arith, c.frames.auto.lines, c.requires.arguments.taps_max)) (λ i l. let zero : i ≡ 0 = omega arith in rw zero ensured.small) (old.sound came h) j inside in
           rw lines (rw sum at is);
     }
 

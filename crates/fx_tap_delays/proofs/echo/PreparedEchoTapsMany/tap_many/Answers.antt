@@ -44,7 +44,7 @@ pieces-preserved c =
     let pushes = rw width at c.push_frames.ensures.items in
     let lined : line.channels ≡ ch = old.made.line_channels ∙ asked.line.channels in
     let held = c.len-held.ensures.line.within in
-    let bound : n * ch ≤ n * 16 = mul-le-mul_left n c.self.invariant.0.bound in
+    let bound : n * ch ≤ n * 16 = mul-le-mul_left n c.self.invariant.0.channels.1 in
     rw (← c.self.view_is, width)
     record {
       within = within;

@@ -25,7 +25,7 @@ invariant_of-result c =
     let end = times-flag ended (sum_of_delays c.args.taps.now) n.core.flag in
     rw (c.in-Ok.ensures, c.restored.ensures, c.of-numbers.ensures) (
       record {
-        arguments = record { some = c.requires.channels.0; bound = c.requires.channels.1; gain_in = c.requires.gain_in; taps_max = c.requires.taps.1; delays = c.requires.delays; decays = c.requires.decays };
+        arguments = c.requires.arguments;
         whole = c.requires.lines;
         as_many = st.series.as_many;
         lines = rw st.pending_count_is st.series.lines_are;
