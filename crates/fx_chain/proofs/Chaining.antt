@@ -49,7 +49,7 @@ count-is c h = sym (made-count c.flow.stages) ∙ ap length h.made ∙ recipes-c
 pub short-is : (c : ChainParts) → IsChain c → max_of (kinds effect_acts c.flow.stages) (2 ^ 40) ≤ 2 ^ 56
 short-is c h = rw (kinds-made c.flow.stages c.plan.head.channels c.plan.acts h.made) (maximum-for c.plan.head.channels c.plan.acts (2 ^ 40) h.short)
 
--- the stages of a plan's effects may stand in a row
+-- the stages of a plan's effects may stand in sequence
 pub planned-is : (stages : List EffectStage) (channels : ℕ) (acts : List Act) → recipes effect_acts stages ≡ recipes_for channels acts
     → All Usable acts → all_suit channels acts ≡ true → length acts ≤ 32 → hold_all acts ≤ 2 ^ 28 → is_too_long acts ≡ false
     → IsPlanned (kinds effect_acts stages) channels

@@ -353,7 +353,7 @@ module _ {S R : Type 0} (acts : Acts S R) (first : Parts S) (input start : List 
       let next : pieces outs (number + k) out' ≡ pieces outs number out ++ pieces outs k new = pieces-split outs number k out' ∙ ap (λ l. pieces outs number out' ++ pieces outs k l) rest ∙ ap (λ ps. ps ++ pieces outs k new) same in
       rw (more, next) (InOrder-then acts handed passed_while first f f' _ _ _ _ [] 0 before (rw (e, o) at order))
 
-  -- frames were taken while there was room, and behind them more in the room that was left
+  -- frames were taken while there was space, and after them more in the space that was left
   pub Turned-free : (f : Parts S) (out : List ℤ) (read written count number n free : ℕ) → Turned f out read written count number
       → FlowTookWithinSpace acts first count free → FlowTookWithinSpace acts f n (free - written) → written ≤ free → FlowTookWithinSpace acts first (count + n) free
   Turned-free f out read written count number n free t before after within i bound = elim (cases_lt i count) [

@@ -74,7 +74,7 @@ module _ {S R : Type 0} (acts : Acts S R) where
   alone-fed channels left first s xs gs held count (given ys hs g t t' fed gave) =
       alone-gave channels left first t t' ys hs g (left + length ys) gave (alone-fed channels left first t ys hs held count fed)
 
-  -- a frame was taken last only where the output had room for another
+  -- a frame was taken last only where the output had space for another
   took-free : (first t : S) (ys hs : List Samples) (free : ℕ) → Fed acts first ys hs t → (acts.counts t).given ≡ (kind acts t).due (acts.counts t).taken → TookWithinSpace acts first (length ys + 1) free → length hs * (kind acts first).outputs + (kind acts first).outputs ≤ free
   took-free first t ys hs free fed due took =
       let all = Fed-gives acts first t ys hs fed in

@@ -49,7 +49,7 @@ module _ {S R : Type 0} (acts : Acts S R) where
   Took-clips : (s s' : S) (frame : Samples) → Took acts s s' frame → (acts.counts s').clips ≡ (acts.counts s).clips
   Took-clips s s' frame took = ap (λ (c : Counts). c.clips) took.counted
 
-  -- the frames to come are those to come after the step, behind what it gave
+  -- the frames to come are those to come after the step, after what it gave
   pub through-HandedOver : (i : ℕ) (out : Option Samples) (old new : List S) → HandedOver acts i out old new → (z : List Samples) → through acts old z ≡ option_to_list out ++ through acts new z
   through-HandedOver zero (Some frame) (s ∷ []) (s' ∷ []) gave z = ap frames_of (gave.gives.first z)
   through-HandedOver zero None (s ∷ t ∷ stages) (s' ∷ t' ∷ stages') h z =

@@ -29,7 +29,7 @@ use Rattle.fx_chain_flow.proofs.PipelineRuns.{AreReady-run, RanOn-pipeline}
 use Rattle.fx_chain_flow.proofs.Pipelines.{AllHeld-lined}
 
 module _ {S R : Type 0} (acts : Acts S R) where
-  -- one run behind another
+  -- one run after another
   RanOn-then : (channels left : ℕ) (xs gs ys hs : List Samples) (first mid new : List S) → length gs ≡ length xs → length hs ≡ length ys → 1 ≤ length hs → RanOn acts channels xs gs first mid left → RanOn acts channels ys hs mid new (left + length xs) → RanOn acts channels (xs ++ ys) (gs ++ hs) first new left
   RanOn-then channels left xs gs ys hs first mid new even also some one two =
       let n : left + length (xs ++ ys) ≡ left + length xs + length ys = omega (arith, length-append xs ys) in
@@ -85,37 +85,37 @@ module _ {S R : Type 0} (acts : Acts S R) where
 
     -- so many frames more may come
     later-may : (stages : List S) (out : List ℤ) (done m left : ℕ) → OneToOneRun stages out done → done + m ≡ count → MayRun acts channels count first left → MayRun acts channels m stages (left + done)
-    later-may stages out done m left steadily all may =
-        let ran = steadily.ran left may in
+    later-may stages out done m left run_so_far all may =
+        let ran = run_so_far.ran left may in
         let many : length (pieces channels done input) ≡ done = length-pieces channels done input in
         record { sound = rw many at ran.sound; bound = omega (arith, may.bound, all) }
 
     -- a few more may be passed
     pub OneToOneRun-ready : (stages : List S) (out : List ℤ) (done bound left : ℕ) → OneToOneRun stages out done → done + bound ≤ count → 1 ≤ bound → MayRun acts channels count first left → (left + done + bound ≤ max_frames) × AreReady acts channels (left + done) max_frames stages
-    OneToOneRun-ready stages out done bound left steadily within some may =
+    OneToOneRun-ready stages out done bound left run_so_far within some may =
         let all : done + (count - done) ≡ count = omega (arith, within) in
-        let next = later-may stages out done (count - done) left steadily all may in
-        (omega (arith, may.bound, within), AreReady-run acts channels (count - done) (left + done) stages next (omega (arith, within, some)) steadily.determined (steadily.ahead (count - done) all))
+        let next = later-may stages out done (count - done) left run_so_far all may in
+        (omega (arith, may.bound, within), AreReady-run acts channels (count - done) (left + done) stages next (omega (arith, within, some)) run_so_far.determined (run_so_far.ahead (count - done) all))
 
     -- a few went through
     pub OneToOneRun-next : (stages stages' : List S) (out out' y : List ℤ) (done bound : ℕ) → OneToOneRun stages out done → 1 ≤ channels → channels ≤ 16 → done + bound ≤ count → 1 ≤ bound → count * channels ≤ length input → count * channels ≤ length start → All (FitsSigned w32) (take (count * channels) input)
         → length y ≡ bound * channels → PipelineThrough acts (pieces channels bound (take (bound * channels) (drop (done * channels) input))) (pieces channels bound y) stages stages' → AllLined acts stages'
         → ((left : ℕ) → InOrder acts handed passed_while (flow_of acts channels stages left) (pieces channels bound (take (bound * channels) (drop (done * channels) input))) (pieces channels bound y) [] 0 (flow_of acts channels stages' (left + bound)))
         → out' ≡ take (done * channels) out ++ (y ++ drop (bound * channels) (drop (done * channels) out)) → OneToOneRun stages' out' (done + bound)
-    OneToOneRun-next stages stages' out out' y done bound steadily one sixteen within some reach free fits sides pipeline lined order put =
+    OneToOneRun-next stages stages' out out' y done bound run_so_far one sixteen within some reach free fits sides pipeline lined order put =
         record {
           within = within;
           ran = λ left may. went left may;
           order = λ left.
               let more : left + (done + bound) ≡ left + done + bound = omega arith in
-              rw (pieces-split channels done bound input, outs, more) (InOrder-then acts handed passed_while (flow_of acts channels first left) (flow_of acts channels stages (left + done)) (flow_of acts channels stages' (left + done + bound)) (pieces channels done input) (pieces channels done out) xs ys [] 0 (steadily.order left) (order' (left + done)));
-          determined = determined-pipeline acts xs ys stages stages' pipeline' steadily.determined;
+              rw (pieces-split channels done bound input, outs, more) (InOrder-then acts handed passed_while (flow_of acts channels first left) (flow_of acts channels stages (left + done)) (flow_of acts channels stages' (left + done + bound)) (pieces channels done input) (pieces channels done out) xs ys [] 0 (run_so_far.order left) (order' (left + done)));
+          determined = determined-pipeline acts xs ys stages stages' pipeline' run_so_far.determined;
           lined = lined;
-          ahead = λ m all. ahead-pipeline acts xs ys m stages stages' pipeline' (rw many (steadily.ahead (bound + m) (omega (arith, all))));
-          one_to_one = λ m all. one_to_one-pipeline acts xs ys m stages stages' pipeline' (rw many (steadily.one_to_one (bound + m) (omega (arith, all))));
-          keep = rw (kinds-pipeline acts xs ys stages stages' pipeline') steadily.keep;
-          rest_unchanged = rw place (drop-put at (bound * channels) start out y out' sides fits_out put' steadily.rest_unchanged);
-          long = ap length put ∙ put-long at (bound * channels) out y sides fits_out ∙ steadily.long;
+          ahead = λ m all. ahead-pipeline acts xs ys m stages stages' pipeline' (rw many (run_so_far.ahead (bound + m) (omega (arith, all))));
+          one_to_one = λ m all. one_to_one-pipeline acts xs ys m stages stages' pipeline' (rw many (run_so_far.one_to_one (bound + m) (omega (arith, all))));
+          keep = rw (kinds-pipeline acts xs ys stages stages' pipeline') run_so_far.keep;
+          rest_unchanged = rw place (drop-put at (bound * channels) start out y out' sides fits_out put' run_so_far.rest_unchanged);
+          long = ap length put ∙ put-long at (bound * channels) out y sides fits_out ∙ run_so_far.long;
         }
       where
         at : ℕ
@@ -140,7 +140,7 @@ module _ {S R : Type 0} (acts : Acts S R) where
         reached = omega (arith, length-drop at input, place, turns, reach)
 
         fits_out : at + bound * channels ≤ length out
-        fits_out = omega (arith, place, turns, free, steadily.long)
+        fits_out = omega (arith, place, turns, free, run_so_far.long)
 
         pipeline' : PipelineThrough acts xs ys stages stages'
         pipeline' = rw (pieces-take channels bound (drop at input) reached) at pipeline
@@ -183,8 +183,8 @@ module _ {S R : Type 0} (acts : Acts S R) where
         went : (left : ℕ) → MayRun acts channels count first left → RanOn acts channels (pieces channels (done + bound) input) (pieces channels (done + bound) out') first stages' left
         went left may =
             let all : done + (count - done) ≡ count = omega (arith, within) in
-            let next = later-may stages out done (count - done) left steadily all may in
+            let next = later-may stages out done (count - done) left run_so_far all may in
             let two : RanOn acts channels xs ys stages stages' (left + done) =
-            RanOn-pipeline acts rises channels (count - done) bound (left + done) stages stages' (drop at input) ys one sixteen (omega (arith, within)) rest fitting next steadily.determined (AllHeld-lined acts stages steadily.lined) (steadily.ahead (count - done) all) pipeline' in
+            RanOn-pipeline acts rises channels (count - done) bound (left + done) stages stages' (drop at input) ys one sixteen (omega (arith, within)) rest fitting next run_so_far.determined (AllHeld-lined acts stages run_so_far.lined) (run_so_far.ahead (count - done) all) pipeline' in
             let before : length (pieces channels done input) ≡ done = length-pieces channels done input in
-            rw (pieces-split channels done bound input, outs) (RanOn-then channels left (pieces channels done input) (pieces channels done out) xs ys first stages stages' (length-pieces channels done out ∙ sym before) (given ∙ sym many) (omega (arith, given, some)) (steadily.ran left may) (rw before two))
+            rw (pieces-split channels done bound input, outs) (RanOn-then channels left (pieces channels done input) (pieces channels done out) xs ys first stages stages' (length-pieces channels done out ∙ sym before) (given ∙ sym many) (omega (arith, given, some)) (run_so_far.ran left may) (rw before two))

@@ -69,7 +69,7 @@ module _ {S R : Type 0} (acts : Acts S R) where
   PieceTo-next (suc i) channels width outputs xs zs ws [] new s' d n came each e = absurd came
   PieceTo-next (suc i) channels width outputs xs zs ws (s ∷ stages) [] s' d n came each e = absurd came
 
-  -- they came out behind the last
+  -- they came out after the last
   pub PieceTo-out : (i channels width : ℕ) (xs zs : List Samples) (old new : List S) → length new ≤ i → PieceTo i channels xs width zs old new → PipelineThrough acts xs zs old new × (width ≡ outputs_of channels (kinds acts old))
   PieceTo-out zero channels width xs zs [] [] n came = (came.1, came.0)
   PieceTo-out zero channels width xs zs [] (t ∷ stages') n came = absurd (omega arith)

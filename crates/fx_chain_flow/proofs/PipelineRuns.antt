@@ -1,4 +1,4 @@
--- Frames that went through stages in a row by one call, as a run of their flow.
+-- Frames that went through stages in sequence by one call, as a run of their flow.
 use Rattle.std.proofs.Common.{ℕ, zero, suc, ◌+◌, ◌*◌, ◌≤◌, ◌≡◌, List, [], ◌∷◌, ◌++◌, length, map, take, drop, false, refl, sym, ap, ◌∙◌, subst, arith, inr, Some, ℤ, FitsSigned}
 use Rattle.std.specs.Int.{w32}
 use Rattle.std.specs.List.{All}
@@ -81,19 +81,19 @@ module _ {S R : Type 0} (acts : Acts S R) where
   first-through x xs ys [] (s' ∷ stages') pipeline = absurd pipeline
   first-through x xs ys (s ∷ stages) [] pipeline = absurd pipeline
 
-  -- some frames may be passed to stages in a row, of which none has had enough
+  -- some frames may be passed to stages in sequence, of which none has had enough
   pub AreReady-run : (channels count left : ℕ) (stages : List S) → MayRun acts channels count stages left → 1 ≤ count → AllDetermined acts stages → AllAhead acts count stages → AreReady acts channels left max_frames stages
   AreReady-run channels count left stages may some determined ahead =
       let sound = may.sound in
       AreReady-from acts channels left max_frames false stages refl (AllDetermined-dry acts stages determined) (AllAhead-unspent acts count stages some ahead) sound.planned.matching sound.planned.within sound.joined
 
-  -- one run of a flow behind another
+  -- one run of a flow after another
   pub Going-then : (first f f' : Parts S) (xs gs ys hs : List Samples) → Going acts first xs gs f → f.ended ≡ false → Going acts f ys hs f' → Going acts first (xs ++ ys) (gs ++ hs) f'
   Going-then first f f' xs gs ys hs one open_ two =
       record { fed = FlowFed-then acts first f f' xs gs ys hs one.fed two.fed; gave = FlowGave-then acts first f f' xs gs ys hs one.gave open_ two.gave; sound = two.sound; moves = omega (arith, one.moves, two.moves) }
 
   module _ (rises : (r : R) (m n : ℕ) → m ≤ n → (acts.kind_of r).maximum m ≤ (acts.kind_of r).maximum n) (channels : ℕ) where
-    -- frames that went through stages in a row went through their flow, one after another
+    -- frames that went through stages in sequence went through their flow, one after another
     Going-pipeline : (xs ys : List Samples) (left : ℕ) (old new : List S) → AreFrames channels xs → left + length xs ≤ max_frames → IsSound acts (flow_of acts channels old left) → AllDetermined acts old → AllHeld acts old → AllAhead acts (length xs) old → PipelineThrough acts xs ys old new
         → Going acts (flow_of acts channels old left) xs ys (flow_of acts channels new (left + length xs))
     Going-pipeline [] ys left old new frames bound sound determined held ahead pipeline =
@@ -146,7 +146,7 @@ module _ {S R : Type 0} (acts : Acts S R) where
         let same : kinds acts one.mid ≡ kinds acts old = ap (map acts.kind_of) went.gave.recipes_stay in
         omega (arith, rw (count, same) at later, went.gave.given)
 
-    -- what a row did to frames in front of the input
+    -- what stages in sequence did to frames in front of the input
     pub RanOn-pipeline : (count passed left : ℕ) (old new : List S) (input : List ℤ) (ys : List Samples) → 1 ≤ channels → channels ≤ 16 → passed ≤ count → count * channels ≤ length input → All (FitsSigned w32) (take (passed * channels) input) → MayRun acts channels count old left → AllDetermined acts old → AllHeld acts old → AllAhead acts count old
         → PipelineThrough acts (pieces channels passed input) ys old new → RanOn acts channels (pieces channels passed input) ys old new left
     RanOn-pipeline count passed left old new input ys some bound within free fits may determined held ahead pipeline =

@@ -1,4 +1,4 @@
--- A frame that went through stages in a row, as steps of their flow.
+-- A frame that went through stages in sequence, as steps of their flow.
 use Rattle.std.proofs.Common.{ℕ, suc, ◌+◌, ◌<◌, ◌≤◌, ◌≡◌, false, List, [], ◌∷◌, ◌++◌, length, refl, sym, ap, ◌∙◌, arith, inl, inr, Option, Some, None, option_to_list, append-nil, append_assoc}
 use Rattle.fx_frame_base.specs.Feed.{GaveNext, IsHeld}
 use Rattle.fx_frame_base.specs.Frame.{IsFrame, Samples}
@@ -32,7 +32,7 @@ module _ {S R : Type 0} (acts : Acts S R) where
   Overs-then a b c gs hs r unchanged = rw append-nil r
   Overs-then a b c gs hs r (over ks old new i out before last handed held) = rw (← append_assoc gs ks (option_to_list out)) (over (gs ++ ks) old new i out (Overs-then a b old gs ks r before) last handed held)
 
-  -- a stage gave, and its frame went through those behind it
+  -- a stage gave, and its frame went through those after it
   pub Overs-pipeline : (mid s' : S) (frame : Samples) (out : Option Samples) (stages stages' : List S) → GaveNext acts mid s' frame → AllDetermined acts stages → AllHeld acts stages → WentThrough acts frame out stages stages'
       → Overs (mid ∷ stages) (option_to_list out) (s' ∷ stages')
   Overs-pipeline mid s' frame out [] [] gave determined held went = rw went (over [] (mid ∷ []) (s' ∷ []) 0 (Some frame) unchanged (gave.gave.was_wet, tt) gave.gave (gave.held, tt))
@@ -46,7 +46,7 @@ module _ {S R : Type 0} (acts : Acts S R) where
   Overs-pipeline mid s' frame out [] (t' ∷ stages') gave determined held went = absurd went
   Overs-pipeline mid s' frame out (t ∷ stages) [] gave determined held went = absurd went
 
-  -- the last stage gave a frame out, and nothing moved behind that
+  -- the last stage gave a frame out, and nothing moved after that
   record OverLast (first : List S) (frame : Samples) (new : List S) : Type 0 where
     pub old : List S
     pub place : ℕ
@@ -142,7 +142,7 @@ module _ {S R : Type 0} (acts : Acts S R) where
       passed-pipeline out [] (s' ∷ stages') sound determined unspent held went = absurd went
       passed-pipeline out (s ∷ stages) [] sound determined unspent held went = absurd went
 
-      -- where a frame came out, nothing was done behind that
+      -- where a frame came out, nothing was done after that
       pub passed-pipeline-last : (out : Samples) (stages stages' : List S) → IsSound acts (flow_of acts channels stages left) → AllDetermined acts stages → any_spent acts stages ≡ false → AllHeld acts stages → WentThrough acts frame (Some out) stages stages'
           → GaveLast acts (flow_of acts channels stages left) (frame ∷ []) (out ∷ []) (flow_of acts channels stages' (left + 1))
       passed-pipeline-last out [] [] sound determined unspent held went =
@@ -160,7 +160,7 @@ module _ {S R : Type 0} (acts : Acts S R) where
       passed-pipeline-last out [] (s' ∷ stages') sound determined unspent held went = absurd went
       passed-pipeline-last out (s ∷ stages) [] sound determined unspent held went = absurd went
 
-  -- what comes out behind the stages has the channels of the last
+  -- what comes out after the stages has the channels of the last
   pub WentThrough-sides : (channels : ℕ) (frame out : Samples) (stages stages' : List S) → WentThrough acts frame (Some out) stages stages' → length frame ≡ channels → length out ≡ outputs_of channels (kinds acts stages)
   WentThrough-sides channels frame out [] [] went e = let same : out ≡ frame = cc (went) in ap length same ∙ e
   WentThrough-sides channels frame out (s ∷ stages) (s' ∷ stages') (inl kept) e = let none = kept.1 in absurd (cc (none))

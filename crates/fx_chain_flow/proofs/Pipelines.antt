@@ -1,4 +1,4 @@
--- A frame that goes through stages in a row, one after another.
+-- A frame that goes through stages in sequence, one after another.
 use Rattle.std.proofs.Common.{ℕ, zero, suc, ◌+◌, ◌<◌, ◌≤◌, true, false, List, [], ◌∷◌, ◌≡◌, length, drop, get_or, refl, sym, ap, ◌∙◌, subst, arith, inl, inr, Bool, ◌||◌, ◌&&◌, Some, None}
 use Rattle.std.proofs.Math.ListN.{set}
 use Rattle.fx_frame_base.specs.Feed.{GaveNext, IsHeld, TookNext}
@@ -42,7 +42,7 @@ module _ {S R : Type 0} (acts : Acts S R) where
   AllLined-set zero (t ∷ stages) s here all = (here, all.1)
   AllLined-set (suc i) (t ∷ stages) s here all = (all.0, AllLined-set i stages s here all.1)
 
-  -- the stage at a place, and those behind it
+  -- the stage at a place, and those after it
   pub AllLined-drop : (i : ℕ) (stages : List S) (d : S) → i < length stages → IsLined acts (get_or stages i d) → AllLined acts (drop (suc i) stages) → AllLined acts (drop i stages)
   AllLined-drop i [] d h w r = absurd (omega arith)
   AllLined-drop zero (x ∷ stages) d h w r = (w, r)
@@ -115,7 +115,7 @@ module _ {S R : Type 0} (acts : Acts S R) where
   WentThrough-kept (suc i) first frame [] new s' d n came took = absurd came
   WentThrough-kept (suc i) first frame (s ∷ stages) [] s' d n came took = absurd came
 
-  -- it came out behind the last
+  -- it came out after the last
   pub WentThrough-out : (i : ℕ) (first frame : Samples) (old new : List S) → length new ≤ i → CameTo acts i first frame old new → WentThrough acts first (Some frame) old new
   WentThrough-out zero first frame [] [] n came = ap Some came.0
   WentThrough-out zero first frame [] (t ∷ stages') n came = absurd (omega arith)
@@ -124,7 +124,7 @@ module _ {S R : Type 0} (acts : Acts S R) where
   WentThrough-out (suc i) first frame [] new n came = absurd came
   WentThrough-out (suc i) first frame (s ∷ stages) [] n came = absurd came
 
-  -- stages in a row that are dry, of which none was told the end or is spent, may be passed a frame
+  -- stages in sequence that are dry, of which none was given the end or is spent, may be passed a frame
   pub AreReady-from : (channels taken maximum : ℕ) (over : Bool) (stages : List S) → over ≡ false → AllDry acts stages → any_spent acts stages ≡ false → Matching channels (kinds acts stages) → Within (kinds acts stages) maximum → Joined acts taken over stages
       → AreReady acts channels taken maximum stages
   AreReady-from channels taken maximum over [] going dry unspent match within joined = tt

@@ -1,4 +1,4 @@
--- Frames that go through stages in a row one after another.
+-- Frames that go through stages in sequence one after another.
 use Rattle.std.proofs.Common.{ℕ, zero, suc, add-one, ◌+◌, ◌-◌, ◌*◌, ◌/◌, ◌<◌, ◌≤◌, ◌≡◌, Bool, true, false, map, List, [], ◌∷◌, ◌++◌, get_or, length, take, drop, set, refl, sym, ap, ◌∙◌, subst, arith, inl, inr, Option, Some, None, option_to_list, ◌||◌, ◌&&◌, max, ℤ, FitsSigned, if◌then◌else◌, ◌⊎◌}
 use Rattle.std.specs.Int.{w32}
 use Rattle.std.specs.List.{All}
@@ -43,7 +43,7 @@ kept-is w channels keeps inputs outputs =
     let same : ◌≡◌ {A = ℕ × (ℕ × Bool)} (channels, (channels, true)) (w.inputs, (w.outputs, w.keeps)) = rw (keeps, outputs, inputs) refl in
     ap (λ (p : ℕ × (ℕ × Bool)). record { inputs = p.0; outputs = p.1.0; keeps = p.1.1 }) same
 
--- a frame was written behind so many that were, or none
+-- a frame was written after so many that were, or none
 abbrev pub Wrote : ℕ → Bool → Samples → List ℤ → List ℤ → ℕ → ℕ → Type 0
 Wrote channels b frame out out' given given' =
     ((b ≡ true) × (out' ≡ take (given * channels) out ++ (frame ++ drop (given * channels + channels - given * channels) (drop (given * channels) out))) × (given' ≡ given + 1))
@@ -89,7 +89,7 @@ frame-read at size long input some bound within reach fits =
     }
 
 module _ {S R : Type 0} (acts : Acts S R) where
-  -- the widths of a row of which each stage gives as many channels as go in, and so many go in
+  -- the widths of stages in sequence of which each stage gives as many channels as go in, and so many go in
   pub widths-kept : {w kept : Widths} {count : ℕ} {samples free : List ℤ} {stages : List S} → MayRunPipeline acts w count samples free stages → (channels : ℕ) → kept ≡ record { inputs = channels; outputs = channels; keeps = true } → w.keeps ≡ true → w.inputs ≡ channels → kept ≡ w
   widths-kept {w} may channels named keeps is = named ∙ kept-is w channels keeps is (may.outputs ∙ outputs-keep _ _ (may.keep keeps))
 
@@ -97,7 +97,7 @@ module _ {S R : Type 0} (acts : Acts S R) where
   AllAhead-less m n [] h all = tt
   AllAhead-less m n (s ∷ stages) h all = ((λ k l. all.0 k (omega arith)), AllAhead-less m n stages h all.1)
 
-  -- the stage at a place, and those behind it
+  -- the stage at a place, and those after it
   pub AllAhead-drop : (i count : ℕ) (stages : List S) (d : S) → i < length stages → ((n : ℕ) → n < count → is_enough (kind acts (get_or stages i d)).enough ((acts.counts (get_or stages i d)).taken + n) ≡ false) → AllAhead acts count (drop (suc i) stages)
       → AllAhead acts count (drop i stages)
   AllAhead-drop i count [] d h here more = absurd (omega arith)
@@ -177,7 +177,7 @@ module _ {S R : Type 0} (acts : Acts S R) where
   determined-next zero (t ∷ stages) s' h all dry is = (dry, is, tt)
   determined-next (suc i) (t ∷ stages) s' h all dry is = (all.0, all.1, determined-next i stages s' (omega arith) all.2 dry is)
 
-  -- the frame stayed in a stage; those behind it stayed as they were
+  -- the frame stayed in a stage; those after it stayed as they were
   pub determined-kept : (i : ℕ) (first frame : Samples) (old new : List S) (s' : S) → i < length new → CameTo acts i first frame old new → AllDetermined acts old → AllDetermined acts (take i new) → acts.dry s' ≡ true → IsDry acts s' → AllDetermined acts (set new i s')
   determined-kept zero first frame old [] s' h came before all dry is = absurd (omega arith)
   determined-kept zero first frame [] (t ∷ stages') s' h came before all dry is = absurd (let many = ap length came.1 in omega arith)

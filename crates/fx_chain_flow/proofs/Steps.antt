@@ -41,7 +41,7 @@ module _ {S R : Type 0} (acts : Acts S R) (rises : (r : R) (m n : ℕ) → m ≤
   moves-sound f sound =
       work-le acts rises f.stages f.left (taken_of f) f.ended sound.joined (omega arith)
 
-  -- what a row of steps keeps, and what it adds
+  -- what a sequence of steps keeps, and what it adds
   StepsInSequence-counts : (first last : Parts S) (n : ℕ) → StepsInSequence acts first n last
       → (recipes acts last.stages ≡ recipes acts first.stages) × (taken_of last ≡ taken_of first) × (moves_of acts last + ended_of acts last.stages ≡ moves_of acts first + ended_of acts first.stages + n)
   StepsInSequence-counts first last n not_begun = (refl, refl, omega arith)
@@ -49,7 +49,7 @@ module _ {S R : Type 0} (acts : Acts S R) (rises : (r : R) (m n : ℕ) → m ≤
       let before = StepsInSequence-counts first f m pipeline in
       (steps.recipes_stay ∙ before.0, steps.taken ∙ before.1, omega (arith, steps.steps, before.2))
 
-  -- steps in a row are no more than the work that is left, and one for each stage
+  -- successive steps are no more than the work that is left, and one for each stage
   pub StepsInSequence-bound : (first last : Parts S) (n : ℕ) → IsSound acts first → StepsInSequence acts first n last → n ≤ work (kinds acts first.stages) (taken_of first) - moves_of acts first + length first.stages
   StepsInSequence-bound first last n sound not_begun = omega arith
   StepsInSequence-bound first last n sound (one_more m step f f' pipeline busy steps) =

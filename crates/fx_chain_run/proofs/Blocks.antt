@@ -33,7 +33,7 @@ use Rattle.fx_chain_run.proofs.Passing.{Flowed-more, Flowed-turn, FlowedFront-mo
 use Rattle.fx_chain_run.proofs.Sending.{coded-append, coded_clips-append}
 
 module _ {S R : Type 0} (acts : Acts S R) where
-  -- a row of calls, behind those that came before
+  -- a sequence of calls, after those that came before
   Reached-fed : (first at mid : Parts S) (frames xs given gs : List Samples) → Reached acts first frames given at → FlowFed acts at xs gs mid → Reached acts first (frames ++ xs) (given ++ gs) mid
   Reached-fed first at mid frames xs given gs r untouched = rw (append-nil frames, append-nil given) r
   Reached-fed first at mid frames xs given gs r (taken_in ys hs x f f' fed t) =
@@ -63,7 +63,7 @@ module _ {S R : Type 0} (acts : Acts S R) where
     reached = q.reached start frames given p.reached;
   }
 
-  -- what it gave waits behind what was sent
+  -- what it gave waits after what was sent
   Flowed-put : (start at mid : Parts S) (coding : Coding) (frames xs gs : List Samples) (clips new_clips : ℕ) (first now : Option (List ℕ)) (out new_out : Pending) (head : List ℕ)
       → Flowed acts start at coding frames clips first now out head → at.ended ≡ false → FlowFed acts at xs gs mid → FlowGave acts at xs gs mid → new_clips ≡ clips + coded_clips coding gs
       → new_out.bytes ≡ out.bytes ++ coded coding gs → new_out.written ≡ out.written → Flowed acts start mid coding (frames ++ xs) new_clips first now new_out head

@@ -34,7 +34,7 @@ WantsMore-next ks n w e m h = pick (nat_lt m n) refl
         let same : m ≡ n = omega arith in
         rw same e
 
--- the frames behind those that were taken
+-- the frames after those that were taken
 pub sound_frames-more : (first now : Reading) (bytes : List ℕ) (n : ℕ) (to_come new_to_come : Option (List ℕ)) (frame : Samples)
     → RanFrames first now bytes n to_come → TakesFrame now (drop (n * size_of first) bytes) frame new_to_come → sound_frames first (n + 1) bytes ≡ sound_frames first n bytes ++ frame ∷ []
 sound_frames-more first now bytes n to_come new_to_come frame r t =
@@ -85,7 +85,7 @@ module _ {S R : Type 0} (acts : Acts S R) where
         reached = q.reached start (frames ++ frame ∷ []) given (took frames given frame at g p.reached hungry e);
       }
 
-  -- the end was told, and what the flow then gave
+  -- the end was given, and what the flow then gave
   Through-end : (start at g new : Parts S) (frames given more : List Samples) → Through acts start at frames given → IsHungry acts at
       → g ≡ record at { ended = true } → RunGives acts g new more → Through acts start new frames (given ++ more)
   Through-end start at g new frames given more p hungry e q =
@@ -137,7 +137,7 @@ module _ {S R : Type 0} (acts : Acts S R) where
     pub FlowedFront-turn : (frame : Samples) → g ≡ record at { inlet = Some frame } → RunCutOff acts g new coding clips new_clips now new_now out new_out → FlowedFront acts start new coding (frames ++ frame ∷ []) new_clips first new_now new_out head
     FlowedFront-turn frame e q = FlowedFront-more p q (Through-turn start at g new frames p.given q.given frame p.through hungry e q.gives)
 
-    -- the end was told
+    -- the end was given
     pub Flowed-end : g ≡ record at { ended = true } → Drained acts g new coding clips new_clips now new_now out new_out → Flowed acts start new coding frames new_clips first new_now new_out head
     Flowed-end e q = Flowed-more p q (Through-end start at g new frames p.given q.given p.through hungry e q.gives)
 

@@ -13,7 +13,7 @@ use Rattle.fx_chain_run.specs.Through.{Reached, took, end_reported, untouched, s
 use Rattle.fx_chain_flow.proofs.Laws.{none_true}
 use Rattle.fx_frame_base.proofs.FedLaws.{total-append}
 
--- one list behind the other, each at its place
+-- one list after the other, each at its place
 abbrev append_each : List (List Given) → List (List Given) → List (List Given)
 append_each [] ds = []
 append_each (g ∷ gs) [] = []
@@ -83,7 +83,7 @@ module _ {S R : Type 0} (acts : Acts S R) where
       (sym (h.0.rest z), omega arith, omega arith, rw (h.1, h.0.rest z) (After-same stages _))
   After-fed frame out old new h z = absurd h
 
-  -- the end is given by none: the stages before the one that is told it give nothing more
+  -- the end is given by none: the stages before the one that is given it give nothing more
   After-end : (i : ℕ) (old new : List S) → AllDetermined acts old → IsFirstOpen acts i old → EndPassed acts i old new → After (nones old) old new [] []
   After-end zero (s ∷ stages) (s' ∷ stages') dry first h =
       let unchanged : (acts.counts s').given ≡ (acts.counts s).given = ap (λ (c : Counts). c.given) h.0.counted in

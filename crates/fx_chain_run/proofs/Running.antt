@@ -25,7 +25,7 @@ use Rattle.fx_chain_run.specs.Run.{RanToEnd, unread_after}
 use Rattle.fx_chain_run.specs.Through.{Through}
 use Rattle.fx_chain_run.proofs.Reaching.{clips-stopped, moves-stopped}
 
--- one more count in a row
+-- one more count after others
 counts-set : (counts : List ℕ) (i k : ℕ) → i < length counts → slice_set (take i counts ++ replicate (suc k) 0) i (slice_index counts i) ≡ take (suc i) counts ++ replicate k 0
 counts-set [] i k h = absurd (omega arith)
 counts-set (n ∷ counts) zero k h = refl
@@ -65,7 +65,7 @@ pub not-over : (over enough : Bool) → MatchBool over (enough ≡ false) (enoug
 not-over true enough e t = absurd (cc (e, t))
 not-over false enough e t = refl
 
--- a source stands behind what is reported of its sound
+-- a source stands after what is reported of its sound
 pub stands-rest_unchanged : (start : Reading) (bytes : List ℕ) (n missing stray : ℕ) (over : Bool) (to_come known : Option (List ℕ)) → known ≡ Some bytes → to_come ≡ Some (unread_after start (not over) n bytes)
     → MatchBool over (IfKnown known (λ b. RanToEnd start b n missing stray)) ((missing ≡ 0) × (stray ≡ 0)) → to_come ≡ Some (drop (n * size_of start + stray) bytes)
 stands-rest_unchanged start bytes n missing stray false to_come known is left p = left ∙ ap (λ m. Some (drop m bytes)) (omega (arith, p.1))
@@ -73,7 +73,7 @@ stands-rest_unchanged start bytes n missing stray true to_come known is left p =
     let ran = p bytes is in
     left ∙ ap (λ m. Some (drop m bytes)) (rw (ran.count, ran.strays) (sym (div-add-mod' (length (within_sound start.left bytes)) (size_of start))))
 
--- the bytes behind the head
+-- the bytes after the head
 pub sound-length : (head sound : List ℕ) (put count : ℕ) → put ≡ length (head ++ sound) → count ≡ put - length head → count ≡ length sound
 sound-length head sound put count p c = let e = length-append head sound in omega (arith, p, c, e)
 

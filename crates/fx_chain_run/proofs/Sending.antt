@@ -10,7 +10,7 @@ use Rattle.fx_frame_base.specs.declared.coding.Coding.TheVariants.{U8, S8, S16Le
 use Rattle.fx_sound.specs.Output.{Pending, Sent}
 use Rattle.fx_chain_run.specs.FrameWriter.{WroteFront, coded, coded_clips}
 
--- what was sent is a front, whatever comes behind
+-- what was sent is a front, whatever comes after
 pub WroteFront-sent : (first now : Option (List ℕ)) (out : Pending) (all more : List ℕ) → Sent first now out all → WroteFront first now out.written (all ++ more)
 WroteFront-sent first now out all more s = record {
   part = omega (arith, s.within, length-append all more);

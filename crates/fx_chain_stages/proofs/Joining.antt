@@ -30,7 +30,7 @@ narrow-frames channels (x ∷ frames) h =
     All-cons (λ (x : Samples). All (FitsSigned w32) x) x frames (All-head (IsSamples w32 channels) x frames h).fits
     (narrow-frames channels frames (All-tail (IsSamples w32 channels) x frames h))
 
--- a line, and a frame in hand
+-- a line, and a pending frame
 pub narrow-stored : (line : Frames ℤ) (channels : ℕ) (pending : Option Samples) → IsLine w32 line → IsPending channels pending → AreNarrow (line.items ++ option_to_list pending)
 narrow-stored line channels pending l h = All-append (λ (x : Samples). All (FitsSigned w32) x) line.items (option_to_list pending) (narrow-frames line.channels line.items l.frames) (narrow-pending channels pending h)
 
@@ -61,7 +61,7 @@ module _ {S R : Type 0} {acts : Acts S R} {wrap : S → EffectStage} (j : Joins 
   same_stored : (s : S) → effect_acts.stored (wrap s) ≡ acts.stored s
   same_stored s = ap (λ (l : Look). l.stored) (j.looks s)
 
-  -- what one of them was passed or fed, alone and in a row, the stage of any effect was
+  -- what one of them was passed or fed, alone and in sequence, the stage of any effect was
   pub passed : (r : Passing) (s s' : S) (x y : Samples) (e e' : EffectStage) → e ≡ wrap s → e' ≡ wrap s' → PassedOn acts r s s' x y → PassedOn effect_acts r e e' x y
   passed r s s' x y e e' first last was = rw (first, last) (PassedOn-along acts effect_acts wrap j.named same_recipe j.kinds same_rest same_counts same_dry same_stored r s s' x y was)
 

@@ -75,7 +75,7 @@ mixes-are channels specs h =
       all-hold _ (λ (s : SmallVec (ℕ × Weight)). All (λ (c : ℕ × Weight). c.0 < channels) s.items) (λ s k. (mix-is channels s.items k).1) specs each,
     )
 
--- a new stage behind new ones
+-- a new stage after new ones
 pub AllNew-push : (stages : List EffectStage) (s : EffectStage) → AllNew effect_acts stages → IsNew effect_acts (effect_acts.recipe s) s → AllNew effect_acts (stages ++ s ∷ [])
 AllNew-push [] s all new = (new, tt)
 AllNew-push (t ∷ stages) s all new = (all.0, AllNew-push stages s all.1 new)
@@ -102,13 +102,13 @@ echo-new channels e s new = record { recipe = ap (λ (r : EchoArguments). InPlac
 pub fade-new : (channels : ℕ) (f : Fading) (s : SelectedState FadeArguments) → IsNew fade_acts (record { channels = channels; shape = record { fade_in = f.fade_in; stop = effective f.stop; fade_out = f.fade_out } }) s → IsNew effect_acts (recipe_at (InPlace channels (OfFade f))) (stages.Fade s)
 fade-new channels f s new = record { recipe = ap (λ (r : FadeArguments). InPlace r.channels (OfFade (record { fade_in = r.shape.fade_in; stop = r.shape.stop; fade_out = r.shape.fade_out }))) new.recipe; rest = new.rest; counts = new.counts; dry = new.dry; stored = new.stored; state_counters = new.state_counters }
 
--- effects behind one hold no more than all together, and neither does the one
+-- effects after one hold no more than all together, and neither does the one
 pub hold-tail : (a : Act) (acts : List Act) (maximum : ℕ) → hold_all (a ∷ acts) ≤ maximum → (line_of_act a ≤ maximum) × (hold_all acts ≤ maximum)
 hold-tail a acts maximum h =
     let parts = sum_by-cons hold_of_act a acts in
     (omega (arith, h, parts), omega (arith, h, parts))
 
--- a stage behind others, as the recipes say
+-- a stage after others, as the recipes say
 pub made-more : (stages : List EffectStage) (s : EffectStage) (channels : ℕ) (a : Act) (acts : List Act) (all : List Placed)
     → effect_acts.recipe s ≡ recipe_at (InPlace channels a)
     → recipes effect_acts stages ++ recipes_for channels (a ∷ acts) ≡ all

@@ -43,7 +43,7 @@ part-fits : (n factor limit : ℕ) → 1 ≤ factor → n * factor ≤ limit →
 part-fits n factor limit p h = (le-div_iff_mul-le p).1 h
 
 -- What a plan says of an effect holds of its stage: its line is as long; it gives as many frames for so many; it takes frames
--- of the channels, and gives frames of those behind the effect, which are 1 to 16; it takes as many frames as come where
+-- of the channels, and gives frames of those after the effect, which are 1 to 16; it takes as many frames as come where
 -- what it gives is not too long; and it suits channels where the effect fits a layout with them.
 pub record Planned (channels : ℕ) (a : Act) : Type 0 where
   pub line : (kind_for channels a).line ≡ line_of_act a

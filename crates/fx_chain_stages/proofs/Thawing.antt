@@ -17,7 +17,7 @@ use Rattle.fx_chain_stages.specs.Thawed.{FitsEffect, fits_stage, placing, recipe
 use Rattle.fx_chain_stages.proofs.Making.{hold-tail}
 use Rattle.fx_chain_stages.proofs.Planned.{planned}
 
--- arguments behind others
+-- arguments after others
 pub placed-more : (xs : List EffectArguments) (x : EffectArguments) (channels : ℕ) (a : Act) (acts : List Act) (all : List Placed)
     → placing x ≡ InPlace channels a
     → map placing xs ++ placed_in channels (a ∷ acts) ≡ all

@@ -146,7 +146,7 @@ lead-passed s n input r h bound =
     let all = left-fed (pieces s.recipe.channels n input) s r (omega arith) (omega arith) in
     rw many at all
 
--- those and groups behind them
+-- those and groups after them
 pub all-passed : (s : DownsampleState) (n m : ℕ) (input out : List ℤ) → Ready s → n ≤ s.skip → s.skip - n ≡ 0 → (n + m * s.recipe.factor) * s.recipe.channels ≤ length input → s.core.taken + (n + m * s.recipe.factor) ≤ 2 ^ 56
     → pieces s.recipe.channels m out ≡ firsts s.recipe.channels s.recipe.factor m (drop (n * s.recipe.channels) input)
     → Fed downsample_acts s (pieces s.recipe.channels (n + m * s.recipe.factor) input) (pieces s.recipe.channels m out) (record s { core = record s.core { taken = s.core.taken + n + m * s.recipe.factor; given = s.core.given + m }; skip = s.skip - n })
@@ -160,7 +160,7 @@ all-passed s n m input out r h none free bound same =
     let end : ◌≡◌ {A = DownsampleState} (record s { core = record s.core { taken = s.core.taken + n + m * f; given = s.core.given + m }; skip = s.skip - n }) (passed (beyond s n) (m * f) m) = rw none refl in
     rw (end, same, pieces-split ch n (m * f) input) (Fed-then downsample_acts s (beyond s n) (passed (beyond s n) (m * f) m) (pieces ch n input) [] (pieces ch (m * f) (drop (n * ch) input)) (firsts ch f m (drop (n * ch) input)) one.0 two.0, two.1)
 
--- each of so many frames was taken while the output had room for one more, where it has room for those that were given and one more
+-- each of so many frames was taken while the output had space for one more, where it has room for those that were given and one more
 pub took-with-free : (s t : DownsampleState) (n k free : ℕ) → Ready t → t.recipe ≡ s.recipe → t.core.taken ≡ s.core.taken + n → t.core.given ≡ s.core.given + k → (k + 1) * s.recipe.channels ≤ free → TookWithinSpace downsample_acts s n free
 took-with-free s t n k free r same took gave fits =
     let counted = rw same at r.is.counted in

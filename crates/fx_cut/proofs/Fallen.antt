@@ -67,7 +67,7 @@ module _ (line : Frames ℤ) (channels : ℕ) (frame o : Samples) (is : IsLine w
   pub oldest-length : length o ≡ channels
   oldest-length = oldest-channels line.channels _ _ frame o is.frames (f ∙ sym same) (oldest-first _ _ _ _ out is.within) ∙ same
 
-  -- it can be in hand
+  -- it can be pending
   pub oldest-fits : IsFrame o → IsPending channels (Some o)
   oldest-fits framed = λ x q. let w : o ≡ x = cc in (rw (← w) framed, rw (← w) oldest-length)
 

@@ -153,7 +153,7 @@ none-due ps =
 
 -- ---- how many frames come after a place
 
--- the pads at a place or behind it
+-- the pads at a place or after it
 rest_unchanged-step : (n : ℕ) (pads : List (ℕ × ℕ)) → silence_from pads n ≡ sum_by (here n) pads + silence_from pads (n + 1)
 rest_unchanged-step n [] = refl
 rest_unchanged-step n ((k, p) ∷ pads) = go (cases_order p n) (rest_unchanged-step n pads) ∙ ap (λ s. s + silence_from ((k, p) ∷ pads) (n + 1)) (sym (sum_by-cons (here n) (k, p) pads))
@@ -170,7 +170,7 @@ rest_unchanged-step n ((k, p) ∷ pads) = go (cases_order p n) (rest_unchanged-s
     go (inr (inl l)) ih = omega (arith, no n l, no (n + 1) (omega arith), here_not n k p (λ e. omega arith), ih)
     go (inr (inr g)) ih = omega (arith, yes n (omega arith), yes (n + 1) (omega arith), here_not n k p (λ e. omega arith), ih)
 
--- no pad that is taken lies behind the end
+-- no pad that is taken lies after the end
 inside-le : (len k : ℕ) (p : At) → is_inside len (k, p) ≡ true → place_of len p ≤ len
 inside-le len k (Start p) h = leb-true p len h
 inside-le len k (End b) h = omega arith
@@ -188,7 +188,7 @@ none_after len m ((k, p) ∷ ps) h = go (is_inside len (k, p)) refl (none_after 
         let g : q ≤ len = omega arith in
         ap (λ b. sum_by (λ p. p.0) (cond b ((k, q) ∷ filter (λ p. leb (len + 1) p.1) (placed_after len q ps)) (filter (λ p. leb (len + 1) p.1) (placed_after len q ps)))) (lt-leb (len + 1) q (omega arith)) ∙ taken g
 
--- all silence stands at the first place or behind it
+-- all silence stands at the first place or after it
 from_first : (pads : List (ℕ × ℕ)) → silence_from pads 0 ≡ sum_by (λ p. p.0) pads
 from_first [] = refl
 from_first ((k, p) ∷ pads) =
@@ -201,7 +201,7 @@ from_first ((k, p) ∷ pads) =
 pub silence-bound : (len : ℕ) (ps : List (ℕ × At)) → silence_from (placed len ps) 0 ≤ lengths ps
 silence-bound len ps = omega (arith, from_first (placed len ps), taken_le len 0 ps)
 
--- the silence before a place that no pad from the end reaches, and that behind it, are all of it
+-- the silence before a place that no pad from the end reaches, and that after it, are all of it
 pub silence-parts : (len : ℕ) (ps : List (ℕ × At)) (m : ℕ) → RisesFrom 0 (ats ps) → (m ≡ 0) ⊎ (m + largest (map pad_distance ps) ≤ len)
     → sum_by (λ p. p.0) (filter (λ p. ltb p.1 m) (pads_from_start ps)) + silence_from (placed len ps) m ≡ silence_from (placed len ps) 0
 silence-parts len ps zero r h = omega (arith, none_upto (pads_from_start ps))
@@ -214,7 +214,7 @@ silence-parts len ps (suc m) r (inr h) =
     let rest_unchanged : silence_from (placed len ps) m ≡ sum_by (here m) (placed len ps) + silence_from (placed len ps) (suc m) = rest_unchanged-step m (placed len ps) ∙ ap (λ n. sum_by (here m) (placed len ps) + silence_from (placed len ps) n) (sym next) in
     omega (arith, before, same, more, rest_unchanged)
 
--- the first frame, behind its silence
+-- the first frame, after its silence
 pub pad_first : (channels len : ℕ) (ps : List (ℕ × At)) (n : ℕ) (frame : Samples) (x : List Samples)
     → padded_from channels len ps n (frame ∷ x) ≡ replicate (silent_at (placed len ps) n) (silence channels) ++ (frame ∷ padded_from channels len ps (n + 1) x)
 pad_first channels len ps n frame x =

@@ -188,7 +188,7 @@ clear_frames-passed s n input out a free same =
     let last : ◌≡◌ {A = PadState} (passed s n) (later s n) = rw (a.empty, a.none, add-zero s.core.clips) refl in
     rw (last, same) (rw many at all)
 
--- each of them was taken while the output had room for one more
+-- each of them was taken while the output had space for one more
 pub took-with-free : (s : PadState) (n free : ℕ) → AreClear s n → n * s.recipe.channels ≤ free → TookWithinSpace pad_acts s n free
 took-with-free s n free a fits =
     let counted = a.is.counted a.running in

@@ -21,13 +21,13 @@ use Rattle.fx_cut.proofs.PadLaws.{upto_more, length_from, length_padded, none-du
 use Rattle.fx_cut.proofs.PadRest.{pad_new, pad_taken, pad_oldest, pad_drained}
 use Rattle.fx_frame.proofs.DryLaws.{dry-tail}
 
--- where it is dry nothing is in hand, and no silence is to be given
+-- where it is dry nothing is pending, and no silence is to be given
 pub dry-pending : (pending : Option Samples) (silent : ℕ) → (is_none pending && nat_eq silent 0) ≡ true → (pending ≡ None) × (silent ≡ 0)
 dry-pending pending silent h =
     let p = and_parts (is_none pending) (nat_eq silent 0) h in
     (none_of pending p.0, eqb-true silent 0 p.1)
 
--- the frame that the line lets go, and the others
+-- the frame that leaves the line, and the others
 popped-length : (items items' : List Samples) (pending : Option Samples) → pending ≡ slice_get items 0 → items' ≡ drop 1 items → length items' + length (option_to_list pending) ≡ length items
 popped-length [] items' pending e e' = rw (e, e') refl
 popped-length (x ∷ items) items' pending e e' = rw (e, e') (omega arith)
@@ -168,7 +168,7 @@ left-ended : (r : PadArguments) (silent : ℕ) (pending : Option Samples) (taken
 left-ended r silent pending taken items false z e = absurd (false≢true e)
 left-ended r silent pending taken items true z e = refl
 
--- the state after the oldest frame was taken out of the line, behind its silence
+-- the state after the oldest frame was taken out of the line, after its silence
 abbrev pub drawn : PadState → Frames ℤ → ℕ → Option Samples → ℕ → ℕ → Bool → PadState
 drawn s line silent pending given clips ended = record s { line = line; silent = silent; core = record s.core { pending = pending; pending_clips = 0; given = given; clips = clips; ended = ended } }
 
@@ -210,7 +210,7 @@ module _ (s : PadState) (line : Frames ℤ) (silent : ℕ) (pending : Option Sam
         recipe_stays = refl;
       }
 
-  -- the frame in hand was given
+  -- the pending frame was given
   pub Gave-drawn : (frame : Samples) → s.core.pending ≡ Some frame → s.silent ≡ 0 → s.core.ended ≡ true → given ≡ s.core.given + 1 → ended ≡ s.core.ended → Gave pad_acts s (drawn s line silent pending given clips ended) frame
   Gave-drawn frame e none was same unchanged =
       let first : (z : List Samples) → pad_left s z ≡ frame ∷ pad_left (drawn s line silent pending given clips ended) z = λ z.
@@ -254,7 +254,7 @@ left-dry s is dry running =
     apart (inl l) = let full = is.full running in let reach = is.capacity in inr (omega (arith, l, full, reach))
     apart (inr g) = let full = is.full running in let reach = is.capacity in inl (omega (arith, g, full, reach))
 
--- what is left when the frame in hand was given after the end
+-- what is left when the pending frame was given after the end
 pub left-given : (s : PadState) (frame : Samples) → IsPad s → s.core.pending ≡ Some frame → s.silent ≡ 0 → s.core.ended ≡ true → s.core.given + 1 + length (pad_after s.recipe s.core.taken s.line.items []) ≡ all_padded s.recipe.pads s.core.taken
 left-given s frame is e none was =
     let first : pad_left s [] ≡ frame ∷ pad_after s.recipe s.core.taken s.line.items [] =

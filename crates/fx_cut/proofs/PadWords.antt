@@ -15,7 +15,7 @@ use Rattle.fx_cut.specs.PadWords.{Length, are_pads, are_rising, has_at, is_at, w
 use Rattle.fx_cut.specs.TrimWords.{order_faults}
 use Rattle.fx_plan_words.proofs.Ranges.{frames_near, no_faults, no_fault_when}
 
--- positions behind one from the start
+-- positions after one from the start
 rising_after : (number minimum : ℕ) (ps : List At) → order_faults number (Start minimum ∷ ps) ≡ [] → are_rising minimum ps ≡ true
 rising_after number minimum [] h = refl
 rising_after number minimum (Start p ∷ ps) h =

@@ -1,4 +1,4 @@
--- A frame in hand, or none.
+-- A pending frame, or none.
 use Rattle.std.proofs.Common.{◌≡◌, ◌≤◌, true, [], length, refl, arith, Option, Some, None, option_to_list, is_none}
 use Rattle.fx_frame_base.specs.Frame.{Samples}
 

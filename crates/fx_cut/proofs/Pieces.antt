@@ -1,4 +1,4 @@
--- A piece that a stage passed at once, and the frames behind it.
+-- A piece that a stage passed at once, and the frames after it.
 use Rattle.std.proofs.Common.{◌≡◌, ◌≢◌, ◌<◌, ◌+◌, ◌-◌, ◌*◌, ◌/◌, ◌≤◌, ℕ, zero, suc, true, false, List, [], ◌∷◌, ◌++◌, length, take, drop, refl, sym, ap, ◌∙◌, arith, append_assoc, length-append, length-drop, subst, ℤ}
 use Rattle.std.specs.List.{All}
 use Rattle.std.proofs.lemmas.List.Elements.{All-append, All-head, All-nil, All-tail}
@@ -19,7 +19,7 @@ module _ {X : Type 0} where
   abbrev pub part : (a : ℕ) (xs : List X) → List X
   part a xs = take (length xs - a) (drop a xs)
 
--- the first frame, and those behind it
+-- the first frame, and those after it
 pub first-piece : {X : Type 0} (size n : ℕ) (xs : List X) → 1 ≤ n → pieces size n xs ≡ take size xs ∷ pieces size (n - 1) (drop size xs)
 first-piece size zero xs h = absurd (omega arith)
 first-piece size (suc n) xs h = let e : suc n - 1 ≡ n = omega arith in rw e refl
@@ -50,7 +50,7 @@ frames-free n w len h = let all : n * w ≤ len / w * w = mul-le-mul_right w h i
 pub bound-pieces : (n m w : ℕ) → 1 ≤ w → n * w ≤ m * w → n ≤ m
 bound-pieces n m w h k = le_of_mul-le-mul_right k (omega arith)
 
--- what lies behind frames does not matter
+-- what lies after frames does not matter
 pub pieces-cut : {X : Type 0} (size n m : ℕ) (xs : List X) → n * size ≤ length (take m xs) → pieces size n (take m xs) ≡ pieces size n xs
 pieces-cut size n m xs h =
     let long : n * size ≤ length xs = omega (arith, h, length-take m xs) in
@@ -119,7 +119,7 @@ module _ {S R : Type 0} (acts : Acts S R) where
         long : length new ≡ k * (kind acts first).outputs + length rest_unchanged
         long = omega (arith, front, length-append (take (k * (kind acts first).outputs) mid) rest_unchanged)
 
-        -- what was left behind the first call had room for those of the second
+        -- what was left after the first call had space for those of the second
         free_lengths : TookWithinSpace acts first (n + m) (length start)
         free_lengths =
             let outs' : ℕ = (kind acts first).outputs in

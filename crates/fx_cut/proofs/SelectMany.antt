@@ -1,4 +1,4 @@
--- Frames that are sifted many at a time, as they fall out of the line.
+-- Frames that are selected many at a time, as they fall out of the line.
 use Rattle.std.proofs.Common.{◌≡◌, ◌+◌, ◌-◌, ◌*◌, ◌/◌, ◌<◌, ◌≤◌, ◌^◌, ℕ, ℤ, suc, Bool, true, false, cond, inl, inr, ◌⊎◌, List, [], ◌∷◌, ◌++◌, map, length, take, refl, sym, ap, ◌∙◌, arith, add-zero, length-take-le, FitsSigned, Some, None, is_none}
 use Rattle.std.specs.Int.{w32}
 use Rattle.std.specs.List.{All}
@@ -232,7 +232,7 @@ module _ {M : Type 0} (selects : Selects M) where
       more : out_of s.line (x ∷ []) ++ out_of (onto s.line (x ∷ [])) xs ≡ out_of s.line (x ∷ xs)
       more = out-more s.line x xs a.is.line.within
 
-      -- the others behind the first frame, for which these were given
+      -- the others after the first frame, for which these were given
       then : (fs hs : List Samples) → Next b s x fs → Made b (later b s (x ∷ [])) xs hs → All (IsSamples w32 s.line.channels) hs → Fed (selected_acts selects) s (x ∷ xs) (fs ++ hs) (later b s (x ∷ xs)) × IsSelectedState selects (later b s (x ∷ xs))
       then fs hs first made fit =
           let all = rest hs (later b s (x ∷ [])) (alike-next b s (length xs) x a sample first.1) others made fit in
@@ -327,7 +327,7 @@ module _ {M : Type 0} (selects : Selects M) where
         counts true k' ys e m = rw (e, m) refl
         counts false k' ys e m = rw e (add-zero s.core.given)
 
-    -- each of so many frames was taken while the output had room for one more, where it has room for those that fall out
+    -- each of so many frames was taken while the output had space for one more, where it has room for those that fall out
     pub took-with-free : (s : SelectedState M) (n free : ℕ) → IsSelectedState selects s → s.core.pending ≡ None → s.core.ended ≡ false → 0 < selects.channels s.arguments → selects.channels s.arguments ≤ free
         → n ≤ free / selects.channels s.arguments + (s.line.capacity - length s.line.items) → TookWithinSpace (selected_acts selects) s n free
     took-with-free s n free is empty running wide one fits =

@@ -1,4 +1,4 @@
--- A frame that is passed to a stage that sifts frames.
+-- A frame that is passed to a stage that selects frames.
 use Rattle.std.proofs.Common.{◌≡◌, ◌+◌, ◌-◌, ◌<◌, ◌≤◌, ◌^◌, true, false, [], ◌∷◌, length, refl, subst, sym, ap, arith, length-append, ℤ, Some, None, add-zero, is_none, option_to_list}
 use Rattle.std.specs.Int.{w32}
 use Rattle.fx_frame_base.specs.declared.feed.Passing.TheVariants.{Kept, Through}
@@ -23,7 +23,7 @@ module _ {M : Type 0} (selects : Selects M) where
       let cap = is.capacity in
       omega (arith, length-append s.line.items (pending_frames s.core))
 
-  -- the frame in hand is given before the end
+  -- the pending frame is given before the end
   pub Gave-before : (s : SelectedState M) (frame : Samples) → IsSelectedState selects s → s.core.pending ≡ Some frame → s.core.ended ≡ false → Gave (selected_acts selects) s (record s { core = record s.core { pending = None; given = s.core.given + 1 } }) frame
   Gave-before s frame is e running =
       let one : length (pending_frames s.core) ≡ 1 = ap (λ h. length (option_to_list h)) e in

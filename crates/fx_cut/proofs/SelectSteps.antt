@@ -1,4 +1,4 @@
--- The steps of a stage that sifts frames.
+-- The steps of a stage that selects frames.
 use Rattle.std.proofs.Common.{◌≡◌, ℕ, ℤ, zero, suc, ◌+◌, ◌-◌, ◌<◌, ◌≤◌, ◌^◌, Bool, true, false, cond, List, [], ◌∷◌, ◌++◌, map, length, drop, refl, sym, ◌∙◌, ap, arith, add-zero, length-append, append_assoc, append-nil, Option, Some, None, option_to_list, is_none, slice_get}
 use Rattle.std.specs.Int.{w32}
 use Rattle.std.proofs.lemmas.Bool.{cases_lt, false≢true}
@@ -40,7 +40,7 @@ module _ {M : Type 0} (selects : Selects M) where
 
   -- ---- after the end
 
-  -- the oldest frame of the line is let go
+  -- the oldest frame leaves the line
   pub drained : (m : M) (frames : ℕ) (items items' : List Samples) (o : Samples) → Some o ≡ slice_get items 0 → items' ≡ drop 1 items → length items ≤ frames
       → selected_after selects m frames items [] ≡ selected_here selects m frames (frames - length items) o ++ selected_after selects m frames items' []
   drained m frames items items' o e e' h =
@@ -70,7 +70,7 @@ module _ {M : Type 0} (selects : Selects M) where
       ∙ sym (kept_next (selects.gives m frames) (frames - length items))
       ∙ ap (given_before selects m frames) (sym next)
 
-  -- after the end, the next frame that is given is in hand
+  -- after the end, the next frame that is given is pending
   pub IsSelect-over : (s : SelectedState M) (line : Frames ℤ) (pending : Option Samples) (given : ℕ) → IsSelectedState selects s → given + length s.line.items ≤ s.core.taken
       → given ≡ given_before selects s.arguments s.core.taken (s.core.taken - length s.line.items)
       → given_before selects s.arguments s.core.taken (s.core.taken - length s.line.items) + length (option_to_list pending) ≡ given_before selects s.arguments s.core.taken (s.core.taken - length line.items)
@@ -104,7 +104,7 @@ module _ {M : Type 0} (selects : Selects M) where
   abbrev pub came : SelectedState M → Frames ℤ → Option Samples → SelectedState M
   came s line pending = record s { line = line; core = record s.core { pending = pending; pending_clips = 0; taken = s.core.taken + 1 } }
 
-  -- ---- where what is given is settled behind the reach
+  -- ---- where what is given is determined after the reach
 
   module _ (ok : AreDetermined selects) where
     here-determined : (m : M) (frames n : ℕ) (o : Samples) → n + selects.reach m < frames → selected_here selects m frames n o ≡ selected_here selects m (determined_in selects m n) n o

@@ -1,4 +1,4 @@
--- A stage that sifts frames comes back from its frames and numbers.
+-- A stage that selects frames comes back from its frames and numbers.
 use Rattle.std.proofs.Common.{◌≡◌, ℕ, ℤ, ◌+◌, ◌-◌, ◌≤◌, ◌^◌, Bool, List, length, refl, sym, ◌∙◌, ap, arith, length-append, Option, option_to_list, nat_eq, slice_index_or}
 use Rattle.std.proofs.lemmas.List.{nil_from_length}
 use Rattle.fx_frame_base.specs.Frame.{Samples}

@@ -1,4 +1,4 @@
--- Frames that are sifted many at a time, where each lets a given one fall out of a full line.
+-- Frames that are selected many at a time, where each lets a given one fall out of a full line.
 use Rattle.std.proofs.Common.{◌≡◌, ◌+◌, ◌-◌, ◌*◌, ◌<◌, ◌≤◌, ◌^◌, ℕ, ℤ, Bool, true, false, cond, inl, inr, List, [], ◌∷◌, ◌++◌, map, length, take, refl, sym, ap, ◌∙◌, arith, FitsSigned, None, Some}
 use Rattle.std.specs.Int.{w32}
 use Rattle.std.specs.List.{All}

@@ -13,7 +13,7 @@ use Rattle.fx_cut.specs.TrimState.{kept_count}
 use Rattle.fx_cut.specs.Ranges.{range_split, count_same, count_const}
 use Rattle.fx_cut.specs.TrimLaws.{count_by-cons, none_before}
 
--- a frame is kept that lies behind an odd number of positions, where the first of these is behind an odd number or not
+-- a frame is kept that lies after an odd number of positions, where the first of these is after an odd number or not
 abbrev pub odd_from : Bool → ℕ → Bool
 odd_from kept k = eqb ((cond kept 1 0 + k) % 2) 1
 
@@ -77,7 +77,7 @@ between-le false n = omega arith
 
 -- ---- along a list of positions
 
--- behind the last of them
+-- after the last of them
 pub count-over : (ps : List At) (i kept last end : ℕ) (is_kept : Bool) → length ps ≤ i → kept + kept_in is_kept last end (drop i ps) ≡ kept_in false 0 end ps
     → kept + cond is_kept (end - last) 0 ≡ count_by (keeps (places_of 0 (starts ps))) (range_with_len 0 end)
 count-over ps i kept last end is_kept h e =

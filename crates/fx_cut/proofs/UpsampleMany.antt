@@ -1,4 +1,4 @@
--- Frames, each with the silence behind it.
+-- Frames, each with the silence after it.
 use Rattle.std.proofs.Common.{◌≡◌, ◌+◌, ◌-◌, ◌*◌, ◌/◌, ◌<◌, ◌≤◌, ◌^◌, ℕ, ℤ, zero, suc, true, false, List, [], ◌∷◌, ◌++◌, length, take, drop, replicate, refl, sym, ap, ◌∙◌, arith, add-one, add-zero, append-nil, append_assoc, length-drop, None, option_to_list, pos}
 use Rattle.std.proofs.lemmas.List.{drop-drop, drop-replicate, drop_at, length-take-le, take-replicate, take_at}
 use Rattle.std.proofs.Math.Nat.{add-mul, div-le_self, mul-le-mul_right, suc-mul}
@@ -27,7 +27,7 @@ silent-pieces size (suc n) =
     let back : drop size (replicate (size + n * size) (pos 0)) ≡ replicate (n * size) (pos 0) = drop-replicate size (size + n * size) (pos 0) ∙ ap (λ k. replicate k (pos 0)) rest in
     rw (more, take-replicate size (size + n * size) (pos 0) minimum, back) (ap (λ l. silence size ∷ l) (silent-pieces size n))
 
--- a frame with the silence behind it
+-- a frame with the silence after it
 pub group-pieces : (size factor : ℕ) (x : Samples) → 1 ≤ factor → length x ≡ size → pieces size factor (x ++ replicate (factor * size - size) (pos 0)) ≡ x ∷ replicate (factor - 1) (silence size)
 group-pieces size factor x some long =
     let one : factor ≡ suc (factor - 1) = omega arith in
@@ -161,7 +161,7 @@ pub all-passed : (s : UpsampleState) (n : ℕ) (input out : List ℤ) → Ready 
 all-passed s n input out r free bound same =
     rw same (frames-fed n s input r free bound)
 
--- each of them was taken while the output had room for one more
+-- each of them was taken while the output had space for one more
 pub took-with-free : (s : UpsampleState) (n free : ℕ) → Ready s → n * s.recipe.factor * s.recipe.channels ≤ free → TookWithinSpace upsample_acts s n free
 took-with-free s n free r fits i bound =
     let f : ℕ = s.recipe.factor in

@@ -8,7 +8,7 @@ abbrev pub effective : Option At → Option At
 effective (Some (Start zero)) = Some (End 0)
 effective stop = stop
 
--- the frames that a fade waits for: before a stop from the end, those that may be faded out or may lie behind it
+-- the frames that a fade waits for: before a stop from the end, those that may be faded out or may lie after it
 abbrev pub stop_line : Option At → ℕ → ℕ
 stop_line None fade_out = 0
 stop_line (Some (Start frames)) fade_out = 0

@@ -1,9 +1,9 @@
--- Whether a stage with a frame in hand, and frames to come after it, has something to give.
+-- Whether a stage with a pending frame, and frames to come after it, has something to give.
 use Rattle.std.proofs.Common.{ℕ, zero, suc, ◌<◌, ◌≡◌, true, false, refl, arith, Option, Some, None, is_none, nat_eq, ◌&&◌}
 use Prim.Native.Nat.compare
 use Rattle.fx_frame_base.specs.Frame.{Samples}
 
--- a dry stage has no frame in hand
+-- a dry stage has no pending frame
 pub dry-pending : (pending : Option Samples) (tail : ℕ) → (is_none pending && nat_eq tail 0) ≡ true → pending ≡ None
 dry-pending None tail h = refl
 dry-pending (Some x) tail h = absurd (cc)

@@ -47,7 +47,7 @@ set-two xs (y ∷ []) h k = absurd (omega arith)
 set-two xs (y ∷ z ∷ []) h k = two-samples xs h
 set-two xs (y ∷ z ∷ w ∷ ys) h k = absurd (omega arith)
 
--- more frames behind the last ones
+-- more frames after the last ones
 pub last-joined : (c : ℕ) (items xs ys : List Samples) → last_of c (last_of c (items ++ xs) ++ ys) ≡ last_of c (items ++ (xs ++ ys))
 last-joined c items xs ys = keep-twice c (items ++ xs) ys ∙ ap (last_of c) (append_assoc items xs ys)
 
@@ -89,7 +89,7 @@ IsTapState-block taps s line n clips xs is none running bound many lined items c
     }
 
 module _ {M : Type 0} (taps : Taps M) (near : IsNear taps) where
-  -- what is given for some frames, and for others behind them
+  -- what is given for some frames, and for others after them
   pub rest_unchanged-joined : (m : M) (c : ℕ) (xs ys items : List Samples) → length items ≤ c → taps.reach m ≤ c → given_after taps m items (xs ++ ys) ≡ given_after taps m items xs ++ given_after taps m (last_of c (items ++ xs)) ys
   rest_unchanged-joined m c [] ys items held long = rw (last-whole c items held) refl
   rest_unchanged-joined m c (x ∷ xs) ys items held long =
@@ -122,7 +122,7 @@ module _ {M : Type 0} (taps : Taps M) (near : IsNear taps) where
     abbrev pub acts : Acts (TapState M) M
     acts = tap_acts taps
 
-    -- such a stage with no frame in hand, which has given what it took
+    -- such a stage with no pending frame, which has given what it took
     abbrev pub ready : Frames ℤ → ℕ → ℕ → TapState M
     ready line count clips = record { core = passed_core count clips; line = line; tail = 0; arguments = m }
 
@@ -130,11 +130,11 @@ module _ {M : Type 0} (taps : Taps M) (near : IsNear taps) where
     abbrev pub through : Frames ℤ → List Samples → Frames ℤ
     through line xs = record { items = last_of line.capacity (line.items ++ xs); capacity = line.capacity; channels = line.channels }
 
-    -- what is made of a frame behind those of the line
+    -- what is made of a frame after those of the line
     abbrev pub made_after : Frames ℤ → Samples → Given
     made_after line x = taps.made m (sample_before (line.items ++ x ∷ []) (length line.items))
 
-    -- a frame was taken, and what is made of it is in hand
+    -- a frame was taken, and what is made of it is pending
     abbrev pub holding : Frames ℤ → ℕ → ℕ → Samples → TapState M
     holding line count clips x = record { core = after_offering (made_after line x).samples (made_after line x).clips (passed_core count clips); line = through line (x ∷ []); tail = 0; arguments = m }
 
@@ -176,7 +176,7 @@ module _ {M : Type 0} (taps : Taps M) (near : IsNear taps) where
         let passed = one-passed line count clips x size within sides in
         given (x ∷ []) [] (made_after line x).samples passed.0 (ready (through line (x ∷ [])) (count + 1) (clips + (made_after line x).clips)) (taken [] [] x (ready line count clips) passed.0 nothing passed.1) passed.2
 
-    -- a stage with no frame in hand that has not ended is ready
+    -- a stage with no pending frame that has not ended is ready
     ready-is : (s : TapState M) → s.arguments ≡ m → IsTapState taps s → s.core.pending ≡ None → s.core.ended ≡ false → s ≡ ready s.line s.core.taken s.core.clips
     ready-is s e is none running =
         let no_tail : s.tail ≡ 0 = is.not_ended running in

@@ -1,4 +1,4 @@
--- Frames that were taken while there was room.
+-- Frames that were taken while there was space.
 use Rattle.std.proofs.Common.{◌≡◌, ◌+◌, ◌-◌, ◌*◌, ◌<◌, ◌≤◌, ℕ, List, length, sym, ap, arith}
 use Rattle.std.proofs.Math.Nat.{add-mul}
 use Rattle.std.proofs.lemmas.Bool.{cases_lt}
@@ -49,7 +49,7 @@ module _ {S R : Type 0} (acts : Acts S R) where
         (omega (arith, is, fits_out, add-mul (length gs) 1 (kind acts first).outputs))
   ]
 
-  -- frames were taken, and behind those that they gave more
+  -- frames were taken, and after those that they gave more
   pub free-then : (first s : S) (n k m free : ℕ) → acts.recipe s ≡ acts.recipe first → (acts.counts s).taken ≡ (acts.counts first).taken + n → (acts.counts s).given ≡ (acts.counts first).given + k
       → k * (kind acts first).outputs ≤ free → TookWithinSpace acts first n free → TookWithinSpace acts s m (free - k * (kind acts first).outputs) → TookWithinSpace acts first (n + m) free
   free-then first s n k m free same taken given fits one two i bound = elim (cases_lt i n) [

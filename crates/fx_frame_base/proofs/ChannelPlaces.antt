@@ -7,7 +7,7 @@ use Rattle.std.proofs.lemmas.Grind.{get_or-set_at}
 use Rattle.std.proofs.lemmas.List.{get_or-set_other, get_or_append_left, get_or-append_right}
 use Rattle.std.proofs.Math.Nat.{add-mul, suc-mul, mul-le-mul_right}
 
--- a later frame lies behind all of an earlier one
+-- a later frame lies after all of an earlier one
 pub later-rest_unchanged : (channels i j c d : ℕ) → i < j → c < channels → i * channels + c < j * channels + d
 later-rest_unchanged channels i j c d less inside =
     let all : suc i * channels ≤ j * channels = mul-le-mul_right channels (omega arith) in
@@ -59,7 +59,7 @@ module _ {X : Type 0} where
   pub others-stay : (d : X) (out : List X) (channels channel count place at k : ℕ) (y : X) → at ≡ place * channels + channel → place < count → IsOtherPlace channels channel count k → get_or (set out at y) k d ≡ get_or out k d
   others-stay d out channels channel count place at k y is less other = get_or-set_other out at k y d (λ e. other place less (e ∙ is))
 
-  -- a place among the first so many frames, or behind them
+  -- a place among the first so many frames, or after them
   in-front : (d : X) (near far : List X) (channels n i c : ℕ) → length near ≡ n * channels → c < channels → i < n → get_or (near ++ far) (i * channels + c) d ≡ get_or near (i * channels + c) d
   in-front d near far channels n i c long inside less = get_or_append_left near far d (i * channels + c) (omega (arith, long, within-frames channels c i n inside less))
 
@@ -70,7 +70,7 @@ module _ {X : Type 0} where
       let place : i * channels + c - n * channels ≡ (i - n) * channels + c = omega arith in
       get_or-append_right near far (n * channels) (i * channels + c) d long (omega arith) ∙ ap (λ m. get_or far m d) place
 
-  -- what stands in the channel of so many frames, and of those behind them
+  -- what stands in the channel of so many frames, and of those after them
   pub put-joined : (d : X) (F : ℕ → X) (near far : List X) (channels channel n count : ℕ) → channel < channels → length near ≡ n * channels
       → ((i : ℕ) → i < n → get_or near (i * channels + channel) d ≡ F i) → ((i : ℕ) → i < count - n → get_or far (i * channels + channel) d ≡ F (n + i))
       → (i : ℕ) → i < count → get_or (near ++ far) (i * channels + channel) d ≡ F i

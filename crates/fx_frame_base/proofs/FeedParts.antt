@@ -1,4 +1,4 @@
--- A stage that was fed in two calls, the second behind the first, was fed as in one.
+-- A stage that was fed in two calls, the second after the first, was fed as in one.
 use Rattle.std.proofs.Common.{◌≡◌, ◌+◌, ◌*◌, ◌≤◌, ℕ, List, ◌++◌, length, take, drop, sym, arith, length-append, ℤ}
 use Rattle.std.proofs.lemmas.List.{drop_at, length-take-le, take_at}
 use Rattle.fx_frame_base.specs.Feed.{Fed}
@@ -8,7 +8,7 @@ use Rattle.fx_frame_base.proofs.FedLaws.{Fed-then}
 use Rattle.fx_frame_base.proofs.Puts.{pieces-same, pieces-split}
 
 module _ {S R : Type 0} (acts : Acts S R) where
-  -- the second call wrote over what lay behind the frames of the first
+  -- the second call wrote over what lay after the frames of the first
   pub Fed-rest_unchanged : (ins outs n m k j : ℕ) (input mid rest_unchanged new : List ℤ) (first s t : S) → k * outs ≤ length mid → new ≡ take (k * outs) mid ++ rest_unchanged
       → Fed acts first (pieces ins n input) (pieces outs k mid) s → Fed acts s (pieces ins m (drop (n * ins) input)) (pieces outs j rest_unchanged) t
       → Fed acts first (pieces ins (n + m) input) (pieces outs (k + j) new) t

@@ -1,4 +1,4 @@
--- Frames that went through stages in a row.
+-- Frames that went through stages in sequence.
 use Rattle.std.proofs.Common.{ℕ, suc, ◌+◌, ◌≤◌, ◌≡◌, ◌∙◌, List, [], ◌∷◌, length, refl, ap, subst, arith}
 use Rattle.fx_frame_base.specs.declared.feed.Passing.TheVariants.{Through}
 use Rattle.fx_frame_base.specs.Frame.{Samples}

@@ -1,4 +1,4 @@
--- Sixteen samples read one by one are the samples and then quiet places.
+-- Sixteen samples read one by one are the samples and then silent places.
 use Rattle.std.proofs.Common.{◌≡◌, ◌+◌, ℕ, suc, ℤ, pos, List, [], ◌∷◌, ◌++◌, ◌≤◌, ◌-◌, drop, length, take, replicate, refl, arith, FitsSigned, to_z, of_z, to_z-of_z}
 use Rattle.std.specs.Int.{Width}
 use Rattle.std.specs.List.{All}
@@ -43,7 +43,7 @@ module _ {X : Type 0} (Fits : X → Type 0) (silent_sample : X) where
       let e : read ≡ xs ++ replicate (16 - length xs) silent_sample = all-read xs read (16 - length xs) (omega arith) h in
       (record { some = some; bound = bound; count = full; rest = rw e (drop-append_seam xs _); fits = all-fit xs 0 read h }, rw e (take-append_seam xs _))
 
-  -- so many samples in front of places that were all quiet
+  -- so many samples in front of places that were all silent
   pub places-set : Fits silent_sample → (xs : List X) (n : ℕ) → length xs ≡ n → 1 ≤ n → n ≤ 16 → All Fits xs → IsPlaces Fits silent_sample n (xs ++ drop n (replicate 16 silent_sample))
   places-set silent_sample-fits xs n e some bound fits =
       let left : drop n (replicate 16 silent_sample) ≡ replicate (16 - n) silent_sample = drop-replicate n 16 silent_sample in

@@ -33,7 +33,7 @@ module _ {X : Type 0} where
   pub pieces-more : (size n at : ℕ) (xs : List X) → at ≡ n * size → pieces size (n + 1) xs ≡ pieces size n xs ++ take size (drop at xs) ∷ []
   pieces-more size n at xs e = rw (add-one, e) (pieces-suc size n xs)
 
-  -- what lies behind them does not matter
+  -- what lies after them does not matter
   pub pieces-take : (size n : ℕ) (xs : List X) → n * size ≤ length xs → pieces size n (take (n * size) xs) ≡ pieces size n xs
   pieces-take size n xs h =
       sym (pieces-front size n (take (n * size) xs) (drop (n * size) xs) (length-take-le (n * size) xs h)) ∙ ap (pieces size n) (take-append-drop (n * size) xs)
@@ -57,14 +57,14 @@ module _ {X : Type 0} where
       let kept : pieces size n (take at out) ≡ pieces size n out = ap (λ m. pieces size n (take m out)) e ∙ pieces-take size n out (omega arith) in
       rw (add-one, w) (pieces-front size (suc n) (take at out ++ f) (drop (at + length f) out) two ∙ pieces-append size n (take at out) f cut l ∙ ap (λ ps. ps ++ f ∷ []) kept)
 
-  -- what lies behind it stays
+  -- what lies after it stays
   pub drop-put : (at size : ℕ) (first out f new : List X) → length f ≡ size → at + size ≤ length out → new ≡ take at out ++ f ++ drop (at + length f) out → drop at out ≡ drop at first → drop (at + size) new ≡ drop (at + size) first
   drop-put at size first out f new l h w e =
       let two : length (take at out ++ f) ≡ at + size = omega (arith, length-append (take at out) f, length-take-le at out (omega arith)) in
       let turn : (ys : List X) → drop (at + size) ys ≡ drop size (drop at ys) = λ ys. sym (drop-drop size at ys) in
       rw w (drop_at (take at out ++ f) (drop (at + length f) out) (at + size) two ∙ ap (λ m. drop (at + m) out) l ∙ turn out ∙ ap (drop size) e ∙ sym (turn first))
 
-  -- the first pieces, and those behind them
+  -- the first pieces, and those after them
   pub pieces-split : (size n m : ℕ) (xs : List X) → pieces size (n + m) xs ≡ pieces size n xs ++ pieces size m (drop (n * size) xs)
   pieces-split size zero m xs = let e : 0 + m ≡ m = omega arith in let z : 0 * size ≡ 0 = omega arith in rw (e, z) refl
   pieces-split size (suc n) m xs =

@@ -16,7 +16,7 @@ use Rattle.fx_frame_line.proofs.RingLaws.{frames_of, ring-full, ring-len, ring-p
 use Rattle.fx_frame_base.proofs.Pieces.{get_or-piece, length-pieces, pieces-first, pieces-front}
 use borrow.Rule.Slice.PartMut.{put_mid}
 
--- the same so many times, and others behind it
+-- the same so many times, and others after it
 pub replicate-front : {Y : Type 0} (s : Y) (silent_frames n : ℕ) (ys : List Y) (first : ℕ) → first ≡ min silent_frames n → take n (replicate silent_frames s ++ ys) ≡ replicate first s ++ take (n - first) ys
 replicate-front {Y} s silent_frames n ys first e = go (cases_lt silent_frames n)
   where
@@ -59,7 +59,7 @@ module _ {X : Type 0} where
       let kept : pieces size n (take at out) ≡ pieces size n out = ap (λ i. pieces size n (take i out)) e ∙ pieces-take size n out (omega arith) in
       rw w (pieces-front size (n + m) (take at out ++ fs) (drop (at + length fs) out) two ∙ pieces-joined size n m (take at out) fs cut ∙ ap (λ ps. ps ++ pieces size m fs) kept)
 
-  -- the pieces behind the first so many
+  -- the pieces after the first so many
   pieces-beyond : (size k m : ℕ) (xs : List X) → pieces size m (drop (k * size) xs) ≡ drop k (pieces size (k + m) xs)
   pieces-beyond size k m xs =
       sym (ap (drop k) (pieces-split size k m xs) ∙ drop_at (pieces size k xs) (pieces size m (drop (k * size) xs)) k (length-pieces size k xs))
@@ -111,7 +111,7 @@ module _ {X : Type 0} where
       let copied : a ≡ take own xs = is ∙ ap (λ n. take n xs) same in
       (copied, ap length copied ∙ length-take-le own xs (omega arith), omega arith)
 
-  -- what is to be written behind it has the length of what is written there
+  -- what is to be written after it has the length of what is written there
   pub rest-long : (a out ys : List X) (end own : ℕ) → length a ≡ own → own ≤ end → end ≤ length out → end - own ≤ length ys → length (take (end - own) (drop own (a ++ drop own out))) ≡ length (take (end - own) ys)
   rest-long a out ys end own l h free rest =
       let tail : drop own (a ++ drop own out) ≡ drop own out = drop_at a (drop own out) own l in
@@ -184,7 +184,7 @@ module _ {X : Type 0} where
         ring-count : len ≡ length l.items
         ring-count = ring-len channels capacity len samples l is-l r
 
-    -- the oldest frames, and behind them those that come
+    -- the oldest frames, and after them those that come
     pub ring-oldest : (coming old new : List X) (count : ℕ) → new ≡ take (count * channels) (samples.items ++ coming) ++ drop (count * channels) old → count * channels ≤ length (samples.items ++ coming)
         → (n : ℕ) → n * l.channels ≤ length coming → count ≤ length l.items + n → pieces l.channels count new ≡ take count (l.items ++ pieces l.channels n coming)
     ring-oldest coming old new count is within n h bound =

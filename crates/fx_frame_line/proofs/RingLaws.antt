@@ -75,7 +75,7 @@ module _ {X : Type 0} where
         rw none refl
   ]
 
-  -- where enough come behind them, the first so many may go before
+  -- where enough come after them, the first so many may go before
   keep-rest : (n k : ℕ) (xs ys : List X) → k ≤ length xs → k + n ≤ length (xs ++ ys) → keep_last n (drop k xs ++ ys) ≡ keep_last n (xs ++ ys)
   keep-rest n k xs ys le more =
       let cut : drop k xs ++ ys ≡ drop k (xs ++ ys) = sym (drop-append-le k xs ys le) in

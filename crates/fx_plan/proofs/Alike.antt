@@ -28,7 +28,7 @@ exact tag n (Fs ∷ Fss) each f tagged all (inr c) (inl y) =
 exact tag n (Fs ∷ Fss) each f tagged all (inr c) (inr d) =
     exact tag (suc n) Fss each.1 (λ c. f (inr c)) (λ c. let first = tagged (inr c) in omega arith) all.1 c d
 
--- what holds at a variant, in front of what holds at those behind it
+-- what holds at a variant, in front of what holds at those after it
 infixr 3 ◌&◌
 abbrev pub ◌&◌ : {A B : Type 0} → A → B → A × B
 a & b = (a, b)

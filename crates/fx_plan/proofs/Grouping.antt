@@ -19,6 +19,6 @@ groups_cut (word ∷ words) =
     let cases : (b : Bool) → P b = λ b. elim b as P [ true ↦ refl | false ↦ ap grow (groups_cut words) ∙ ap (λ m. cut_at m (word ∷ words)) next ] in
     cases (is_name word)
 
--- the first effect and those behind it
+-- the first effect and those after it
 pub effects_cut : (name : Word) (words : List Word) (k : ℕ) → k ≡ position_or_len is_name words → effects_of (name ∷ words) ≡ (name ∷ take k words) ∷ effects_of (drop k words)
 effects_cut name words k e = rw e (ap (λ groups. (name ∷ groups.0) ∷ groups.1) (groups_cut words))

@@ -8,7 +8,7 @@ use Rattle.fx_plan.specs.Names.{name_of}
 use Rattle.fx_plan.specs.Plans.{is_file, is_fir, names_file}
 use Rattle.fx_plan.proofs.Refusing.{both}
 
--- nothing stands behind the word that names a file
+-- nothing stands after the word that names a file
 one_word : (fir : Bool) (word : Word) (words : List Word) → (fir && is_file (word ∷ words)) ≡ true → words ≡ []
 one_word fir word [] h = refl
 one_word fir word (next ∷ more) h =

@@ -1,4 +1,4 @@
--- The first of all faults, and what the effects behind one are.
+-- The first of all faults, and what the effects after one are.
 use Rattle.std.proofs.Common.{◌≡◌, ℕ, ◌+◌, inl, inr, List, [], ◌∷◌, ◌++◌, map, Some, refl, ap, sym, ◌∙◌, ◌≤◌, arith, nat_lt, Bool, ◌&&◌, false, true}
 use Rattle.std.proofs.lemmas.Bool.Decides.{nat_tests}
 use Rattle.fx_plan_effects.specs.declared.effect.Layout.{Layout}
@@ -35,7 +35,7 @@ pub refuses_all : (f : PlanFault) (number : ℕ) (layout : Layout) (files : List
 refuses_all f number layout files words effects all e h =
     refuses_front f (step_faults number layout (next_file files) words) (effects_faults (number + 1) (layout_after layout (done layout files words)) (files_after words files) effects) all e h
 
--- behind an effect without a fault: the faults, what is done, and the layout of those behind it
+-- after an effect without a fault: the faults, what is done, and the layout of those after it
 pub faults_next : (number : ℕ) (layout next : Layout) (files left : List (List ℕ)) (words : List Word) (effects : List (List Word)) (e : Act) →
     step_faults number layout (next_file files) words ≡ [] → Some e ≡ done layout files words → next ≡ layout_after layout (Some e) → left ≡ files_after words files →
     effects_faults number layout files (words ∷ effects) ≡ effects_faults (number + 1) next left effects
@@ -58,7 +58,7 @@ pub both : (s t : Bool) → (s && t) ≡ true → (s ≡ true) × (t ≡ true)
 both true t h = (refl, h)
 both false t h = cc
 
--- the layout behind effects
+-- the layout after effects
 abbrev pub layout_after_effects : Layout → List Act → Layout
 layout_after_effects layout [] = layout
 layout_after_effects layout (a ∷ acts) = layout_after_effects (layout_after layout (Some a)) acts

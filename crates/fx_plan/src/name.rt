@@ -1,4 +1,4 @@
-//! An effect read from its name and the words behind it.
+//! An effect read from its name and the words after it.
 ghost use Rattle.std.specs.Prelude.{◌≡◌, IfOk, Some, true, ◌∷◌, string_bytes};
 ghost use Rattle.fx_plan_words.specs.Faults.{ReadsWords, word_texts};
 ghost use Rattle.fx_plan_effects.specs.Effects.{Fits, IsLayout, Usable, fits_layout, act, layout_after};

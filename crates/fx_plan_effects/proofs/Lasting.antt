@@ -24,7 +24,7 @@ maxima-step a acts n h = rw (is_beyond_limit-no n h) refl
 pub max_rises : (a : Act) (m n : ℕ) → m ≤ n → max_of_act a m ≤ max_of_act a n
 max_rises a m n h = rises-at (recipe_at (InPlace 1 a)) m n h
 
--- where nothing is past the limit, n is not, and nothing behind the first effect is
+-- where nothing is past the limit, n is not, and nothing after the first effect is
 pub within-here : (acts : List Act) (n : ℕ) → list_any is_beyond_limit (maxima acts n) ≡ false → n ≤ 2 ^ 56
 within-here [] n h = grind (arith, nat_tests)
 within-here (a ∷ acts) n h = grind (arith, nat_tests)
@@ -39,7 +39,7 @@ within-fewer (a ∷ acts) m n h e =
     let k = within-here (a ∷ acts) n e in
     maxima-step a acts m (omega arith) ∙ within-fewer acts (max_of_act a m) (max_of_act a n) (max_rises a m n h) (within-next a acts n e)
 
--- the first frames, and the work behind them
+-- the first frames, and the work after them
 pub work-cons : (a : Act) (acts : List Act) (n : ℕ) → work_of (a ∷ acts) n ≡ n + work_of acts (max_of_act a n)
 work-cons a acts n = sum_by-cons (λ x. x) n (maxima acts (max_of_act a n))
 

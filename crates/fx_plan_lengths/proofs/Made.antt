@@ -52,7 +52,7 @@ by_number a channels m n h =
     let long : length sound ≡ m = length-replicate m [] in
     h sound long ∙ ap (λ k. min k (2 ^ 64 - 1)) (meaning-length channels a sound ∙ ap (made_of a) long)
 
--- ---- effects in a row
+-- ---- effects in sequence
 
 -- how many frames the last one makes, where each takes those that the one before makes
 abbrev pub made_last : List Act → ℕ → ℕ
@@ -67,7 +67,7 @@ composed-made channels [] x = refl
 composed-made channels (a ∷ acts) x =
     composed-made (channels_after channels a) acts (frames_of (meaning_at (recipe_at (InPlace channels a)) x)) ∙ ap (made_last acts) (made-frames channels a x)
 
--- where no more than the limit can come, no more than the limit is made, and then behind the effect
+-- where no more than the limit can come, no more than the limit is made, and then after the effect
 pub made-within : (a : Act) (acts : List Act) (n : ℕ) → list_any is_beyond_limit (maxima (a ∷ acts) n) ≡ false → (made_of a n ≤ 2 ^ 56) × (list_any is_beyond_limit (maxima acts (made_of a n)) ≡ false)
 made-within a acts n h =
     let next = within-next a acts n h in

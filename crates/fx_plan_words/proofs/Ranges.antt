@@ -34,7 +34,7 @@ with_cause-kept : {A F : Type 0} (P : A → Type 0) (cause : F → PlanCause) (r
 with_cause-kept P cause (Ok x) p = p
 with_cause-kept P cause (Err fault) p = tt
 
--- what is left behind a test that refuses
+-- what is left after a test that refuses
 unless_fault : {A F : Type 0} (P : A → Type 0) (t : Bool) (fault : F) (r : Result A F) → IfOk r P → IfOk (cond t (Err fault) r) P
 unless_fault P true fault r p = tt
 unless_fault P false fault r p = p

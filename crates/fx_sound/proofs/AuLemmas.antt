@@ -28,7 +28,7 @@ after_snd-read bytes words n r e h a b c f =
     let p : nat_lt (length bytes) 20 ≡ false = grind (arith, common_steps) in
     rw (p, ← front, ← f) refl
 
--- the same where what came ends behind the words
+-- the same where what came ends after the words
 pub after_snd-read-cut : (bytes words : List ℕ) (n came : ℕ) (r : Result HeadFields HeadFault) → take n words ≡ take n bytes → n ≤ length bytes → length words ≤ n → 20 ≤ n → n ≤ 20
     → r ≡ au_fields words → after_snd (take (n + came) bytes) ≡ with_sound (length (take (n + came) bytes)) r
 after_snd-read-cut bytes words n came r e h a b c f =

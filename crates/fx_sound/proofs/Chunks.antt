@@ -1,4 +1,4 @@
--- A WAVE head that is a row of chunks is read as such.
+-- A WAVE head that is a sequence of chunks is read as such.
 use Rattle.std.proofs.Common.{◌≡◌, ℕ, suc, ◌+◌, ◌-◌, ◌*◌, ◌%◌, ◌≤◌, min, List, [], ◌∷◌, ◌++◌, All, flat_map, length, take, drop, false, refl, sym, ap, ◌∙◌, arith, nat_lt, Ok, Option, None, Some, codes}
 use Rattle.std.specs.Int.{w32, from_le_bytes}
 use Rattle.std.proofs.lemmas.List.{append_assoc, length-append, take-append-le, take_min}
@@ -12,7 +12,7 @@ use Rattle.fx_sound.specs.declared.wave.ChunkStep.TheVariants as step
 use Rattle.fx_sound.specs.Chunks.{Chunk, IsChunk, IsOther, IsWave, chunk_bytes}
 use Rattle.fx_sound.specs.Wave.{announced_of, after_riff, chunks_of, demand_of, max_chunk_bytes, format_of, format_read, long_at, max_chunks, padded_chunk, step_of, with_body, with_format}
 
--- the front of a list, and what is behind it
+-- the front of a list, and what is after it
 take-front : (n : ℕ) (xs ys : List ℕ) → length xs ≡ n → take n (xs ++ ys) ≡ xs
 take-front n xs ys h = ap (λ i. take i (xs ++ ys)) (sym h) ∙ take-append_seam xs ys
 
@@ -47,7 +47,7 @@ body-there c rest is =
     let e = is.even in
     grind (arith, common_steps)
 
--- a chunk whose step goes on behind it
+-- a chunk whose step goes on after it
 chunk-passed : (n o : ℕ) (seen next : Option Format) (c : Chunk) (rest : List ℕ) → IsChunk c → step_of o seen (chunk_bytes c ++ rest) ≡ Ok (step.Next (o + 8 + padded_chunk (length c.body)) next)
     → chunks_of (suc n) o seen (chunk_bytes c ++ rest) ≡ chunks_of n (o + length (chunk_bytes c)) next rest
 unfolding chunks_of
@@ -126,7 +126,7 @@ sound-asked : (o : ℕ) (f : Format) (size : ℕ) → demand_of o (Some f) (code
 unfolding demand_of
 sound-asked o f size = refl
 
--- the sound begins behind its name and size
+-- the sound begins after its name and size
 pub sound-found : (n o : ℕ) (f : Format) (size sound : List ℕ) → length size ≡ 4
     → chunks_of (suc n) o (Some f) (codes "data" ++ (size ++ sound)) ≡ Ok (record { offset = o + 8; announced = announced_of (from_le_bytes w32 size); format = f })
 unfolding chunks_of

@@ -1,4 +1,4 @@
--- What is read as a WAVE head is a row of chunks.
+-- What is read as a WAVE head is a sequence of chunks.
 use Rattle.std.proofs.Common.{◌≡◌, ℕ, zero, suc, ◌+◌, ◌-◌, ◌%◌, ◌≤◌, min, List, [], ◌∷◌, ◌++◌, All, flat_map, length, take, drop, Bool, true, false, not, refl, subst, sym, ap, ◌∙◌, arith, nat_lt, Ok, Err, Result, Option, None, Some, codes, if◌then◌else◌}
 use Rattle.std.specs.Int.{w32, from_le_bytes}
 use Rattle.std.specs.Str.{bytes_eq}
@@ -158,7 +158,7 @@ step-is o seen rest s e =
     let p = both.0 in
     body-is o seen rest (demand_of o seen (take 4 rest) (long_at 4 rest)) s (grind (arith, common_steps)) (λ d is. demand-asks o seen (take 4 rest) (long_at 4 rest) d is) both.1
 
--- other chunks in a row
+-- other chunks one after another
 no-others : All IsOther []
 no-others k d h = absurd (omega (arith, h))
 
@@ -166,7 +166,7 @@ one-more : (c : Chunk) (cs : List Chunk) → IsOther c → All IsOther cs → Al
 one-more c cs first others zero d h = first
 one-more c cs first others (suc k) d h = others k d (omega (arith, h))
 
--- other chunks up to the sound, behind a format that was read
+-- other chunks up to the sound, after a format that was read
 pub record AfterHead (o : ℕ) (f : Format) (rest : List ℕ) (l : HeadFields) : Type 0 where
   pub later : List Chunk
   pub size : List ℕ
@@ -179,7 +179,7 @@ pub record AfterHead (o : ℕ) (f : Format) (rest : List ℕ) (l : HeadFields) :
   pub offset : l.offset ≡ o + length (flat_map chunk_bytes later) + 8
   pub near : l.offset ≤ max_chunk_bytes + 8
 
--- the bytes behind a chunk
+-- the bytes after a chunk
 rest_of_head-chunk : (o next : ℕ) (c : Chunk) (rest rest_of_head : List ℕ) → rest ≡ chunk_bytes c ++ rest_of_head → next ≡ o + length (chunk_bytes c) → drop (next - o) rest ≡ rest_of_head
 rest_of_head-chunk o next c rest rest_of_head layout_of_bytes is = ap (drop (next - o)) layout_of_bytes ∙ drop-front (next - o) (chunk_bytes c) rest_of_head (omega (arith, is))
 

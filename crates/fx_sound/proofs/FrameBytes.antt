@@ -38,7 +38,7 @@ pub length-bytes_of : (coding : Coding) (xs : Samples) → length (bytes_of codi
 length-bytes_of coding [] = omega arith
 length-bytes_of coding (x ∷ xs) = omega (arith, length-append (written_sample coding x) (bytes_of coding xs), length-written coding x, length-bytes_of coding xs)
 
--- the first samples and those behind them are written, and their clips are counted
+-- the first samples and those after them are written, and their clips are counted
 pub bytes_of-part : (coding : Coding) (xs : Samples) (k n : ℕ) → bytes_of coding (take (k + n) xs) ≡ bytes_of coding (take k xs) ++ bytes_of coding (take n (drop k xs))
 bytes_of-part coding xs k n = ap (bytes_of coding) (take-add k n xs) ∙ flat_map-append (written_sample coding) (take k xs) (take n (drop k xs))
 

@@ -26,7 +26,7 @@ head_of-read expected bytes name n found e h a b c f =
     let p : nat_lt (length bytes) 4 ≡ false = grind (arith, common_steps) in
     rw (p, f, front, four) refl
 
--- the same where what came ends behind the name
+-- the same where what came ends after the name
 pub head_of-read-cut : (expected : Option Kind) (bytes name : List ℕ) (n came : ℕ) (found : Option Kind) → take n name ≡ take n bytes → n ≤ length bytes → length name ≤ n → 4 ≤ n → n ≤ 4
     → found ≡ allowed expected (kind_of name) → head_of expected (take (n + came) bytes) ≡ with_kind found (take came (drop n bytes))
 head_of-read-cut expected bytes name n came found e h a b c f =

@@ -22,7 +22,7 @@ drop-held buffer start end n h =
 pub take-moved : (buffer : List ℕ) (start end : ℕ) → start ≤ end → end ≤ length buffer → take (end - start) (copy_within buffer start end 0) ≡ take (end - start) (drop start buffer)
 take-moved buffer start end o w = take_at (take (end - start) (drop start buffer)) (drop (0 + (end - start)) buffer) (end - start) (length-held buffer start end o w)
 
--- n bytes were read behind the first `held`
+-- n bytes were read after the first `held`
 pub take-refilled : (buffer more : List ℕ) (held free n : ℕ) → held ≤ length buffer → n ≤ length more
     → take (held + n) (put_mid held free buffer more) ≡ take held buffer ++ take n more
 take-refilled buffer more held free n h k =
@@ -33,7 +33,7 @@ take-refilled buffer more held free n h k =
     ∙ sym (append_assoc (take held buffer) (take n more) (drop n more ++ post)) in
     ap (take (held + n)) parts ∙ take_at (take held buffer ++ take n more) (drop n more ++ post) (held + n) len
 
--- bytes that were read come behind those that are held
+-- bytes that were read come after those that are held
 pub to_come-read : (held bs : List ℕ) (rest new : Option (List ℕ)) (bytes : List ℕ) → Consumes rest new bs → prepend_known held rest ≡ Some bytes → prepend_known (held ++ bs) new ≡ Some bytes
 to_come-read held bs None new bytes c e = cc
 to_come-read held bs (Some xs) None bytes c e = absurd c
@@ -54,7 +54,7 @@ to_come-front rest s n h bytes known = front (rest s.reader) s.bytes n bytes h k
 pub to_come-held : {R : Type 0} (rest : R → Option (List ℕ)) (s : Held R) (bytes : List ℕ) → to_come rest s ≡ Some bytes → HoldsFront s bytes
 to_come-held rest s bytes known = sym (take_all (length s.bytes) s.bytes (omega arith)) ∙ (to_come-front rest s (length s.bytes) (omega arith) bytes known).0
 
--- held bytes are let go
+-- held bytes are consumed
 pub to_come-dropped : (held : List ℕ) (rest : Option (List ℕ)) (bytes : List ℕ) (n : ℕ) → n ≤ length held → prepend_known held rest ≡ Some bytes
     → (n ≤ length bytes) × (prepend_known (drop n held) rest ≡ Some (drop n bytes))
 to_come-dropped held None bytes n h e = cc
@@ -62,7 +62,7 @@ to_come-dropped held (Some r) bytes n h e =
     let same : held ++ r ≡ bytes = cc in
     (omega (arith, length-append held r, ap length same), ap Some (sym (drop-append-le n held r h) ∙ ap (drop n) same))
 
--- what a loop has taken when n bytes more are let go
+-- what a loop has taken when n more bytes are consumed
 pub skip-turn : {R : Type 0} (rest : R → Option (List ℕ)) (old mid new : Held R) (bytes : List ℕ) (got n : ℕ)
     → (got ≤ length bytes) × (to_come rest old ≡ Some (drop got bytes)) → Stays rest old mid → n ≤ length mid.bytes → new.bytes ≡ drop n mid.bytes → new.reader ≡ mid.reader
     → (got + n ≤ length bytes) × (to_come rest new ≡ Some (drop (got + n) bytes))
@@ -94,7 +94,7 @@ Tells-both delivered old mid new n m p q = record {
       omega arith;
 }
 
--- two parts taken one behind the other
+-- two parts taken one after the other
 pub Takes-both : {R : Type 0} (delivered : R → ℕ) (old mid new : Held R) (n m k : ℕ) → n + m ≡ k → Takes delivered old mid n → Takes delivered mid new m → Takes delivered old new k
 Takes-both delivered old mid new n m k place p q = record {
   enough = omega (arith, p.enough, q.enough, place);
@@ -104,7 +104,7 @@ Takes-both delivered old mid new n m k place p q = record {
       omega (arith, place);
 }
 
--- where a read failed behind n bytes that were taken
+-- where a read failed after n bytes that were taken
 pub HoldsWhatCame-rest : {R : Type 0} (delivered : R → ℕ) (first old new : Held R) (bytes : List ℕ) (n : ℕ)
     → Takes delivered first old n → HoldsWhatCame delivered old new (drop n bytes) 0 → HoldsWhatCame delivered first new bytes n
 HoldsWhatCame-rest delivered first old new bytes n p came = record { takes = Takes-both delivered first old new n 0 n (omega arith) p came.takes; front = came.front }

@@ -15,7 +15,7 @@ use Rattle.fx_sound.proofs.FrameBytes.{bytes_of-part, clips_of-part}
 use Rattle.fx_frame_base.proofs.Pieces.{length-pieces}
 use borrow.Rule.Slice.PartMut.{put_mid}
 
--- the first samples, and those behind them
+-- the first samples, and those after them
 pub samples_of-part : (coding : Coding) (n m : ℕ) (bytes : List ℕ) → coded_samples coding (n + m) bytes ≡ coded_samples coding n bytes ++ coded_samples coding m (drop (n * width_of coding) bytes)
 samples_of-part coding n m bytes =
     let w : ℕ = width_of coding in
@@ -31,7 +31,7 @@ samples_of-front coding n bytes h =
 pub length-samples_of : (coding : Coding) (n : ℕ) (bytes : List ℕ) → length (coded_samples coding n bytes) ≡ n
 length-samples_of coding n bytes = simp (length-map, length-pieces) refl
 
--- the samples of the bytes behind the first ones are written behind the first samples
+-- the samples of the bytes after the first ones are written after the first samples
 module _ (coding : Coding) (bytes : List ℕ) (xs new : Samples) (k n : ℕ) (within : (k + n) * width_of coding ≤ length bytes) (before : k ≤ length xs)
     (front : take k xs ≡ coded_samples coding k bytes)
     (made : new ≡ coded_samples coding n (take (n * width_of coding) (drop (k * width_of coding) bytes))) where

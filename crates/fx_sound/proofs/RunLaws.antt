@@ -17,7 +17,7 @@ use Rattle.fx_sound.proofs.Held.{Tells-both}
 quotient_of : (n size rest total : ℕ) → rest < size → total ≡ n * size + rest → (n ≡ total / size) × (rest ≡ total % size)
 quotient_of n size rest total h e = (sym (ap (λ m. m / size) e ∙ digits_div n h), sym (ap (λ m. m % size) e ∙ digits_mod n h))
 
--- the sound behind its first k bytes
+-- the sound after its first k bytes
 length-within_beyond : (left : Option ℕ) (k : ℕ) (bytes : List ℕ) → length (within_sound (beyond left k) (drop k bytes)) ≡ length (within_sound left bytes) - k
 length-within_beyond None k bytes = length-drop k bytes
 length-within_beyond (Some a) k bytes = simp (length-take, length-drop) (omega arith)
@@ -45,7 +45,7 @@ Ran-start p bytes to_come e =
       to_come_is = e ∙ ap (λ m. Some (drop m bytes)) (sym none);
     }
 
--- behind the last frame the rest of the sound is dropped too
+-- after the last frame the rest of the sound is dropped too
 pub Ran-rest_unchanged : (first now : Reading) (bytes : List ℕ) (n : ℕ) (to_come new_to_come : Option (List ℕ)) → RanFrames first now bytes n to_come
     → new_to_come ≡ Some (drop (length (within_sound now.left (drop (n * size_of first) bytes))) (drop (n * size_of first) bytes)) → new_to_come ≡ Some (drop (length (within_sound first.left bytes)) bytes)
 Ran-rest_unchanged first now bytes n to_come new_to_come r o =
@@ -123,7 +123,7 @@ Ran-end first now new bytes n to_come r e =
           ∙ ap (λ k. record first { left = beyond first.left (k * size); frames = first.frames + k; missing = lacking first.left total; stray = total % size; over = true }) q.0,
     )
 
--- the sound goes on for a frame behind the first n
+-- the sound goes on for a frame after the first n
 pub Ran-whole : (first now : Reading) (bytes : List ℕ) (n : ℕ) (to_come : Option (List ℕ))
     → RanFrames first now bytes n to_come → size_of now ≤ length (within_sound now.left (drop (n * size_of first) bytes)) → (n + 1) * size_of first ≤ length (within_sound first.left bytes)
 Ran-whole first now bytes n to_come r h =

@@ -20,7 +20,7 @@ Sent-taken first now new out new_out all n s a h b w =
       waiting = b ∙ ap (drop n) s.waiting ∙ drop-drop n out.written all ∙ ap (λ m. drop m all) (sym w);
     }
 
--- bytes were put behind those that wait
+-- bytes were put after those that wait
 pub Sent-put : (first now : Option (List ℕ)) (out new_out : Pending) (all bytes : List ℕ) → Sent first now out all
     → new_out.bytes ≡ out.bytes ++ bytes → new_out.written ≡ out.written → Sent first now new_out (all ++ bytes)
 Sent-put first now out new_out all bytes s b w = record {
@@ -29,7 +29,7 @@ Sent-put first now out new_out all bytes s b w = record {
   waiting = b ∙ ap (λ l. l ++ bytes) s.waiting ∙ sym (drop-append-le out.written all bytes s.within) ∙ ap (λ m. drop m (all ++ bytes)) (sym w);
 }
 
--- bytes put behind the held part
+-- bytes put after the held part
 pub held-put : (buffer bytes : List ℕ) (start end n : ℕ) → start ≤ end → end + n ≤ length buffer → length bytes ≡ n
     → take (end + n - start) (drop start (put_mid end (end + n - end) buffer bytes)) ≡ take (end - start) (drop start buffer) ++ bytes
 held-put buffer bytes start end n o w l =

@@ -1,4 +1,4 @@
--- The sound behind a head, frame by frame.
+-- The sound after a head, frame by frame.
 use Rattle.std.proofs.Common.{◌≡◌, ℕ, ◌+◌, ◌-◌, ◌*◌, ◌≤◌, List, ◌++◌, length, map, take, drop, sym, ap, ◌∙◌, arith, Option, None, Some}
 use Rattle.std.proofs.Math.Nat.{mul-le-mul_right}
 use Rattle.std.proofs.lemmas.List.{length-map, length-take, map-append, take_at}
@@ -42,7 +42,7 @@ pub first_frames-taken : (coding : Coding) (channels n : ℕ) (bytes : List ℕ)
 first_frames-taken coding channels n bytes h =
     ap (map (coded_samples coding channels)) (pieces-take (frame_size coding channels) n bytes h)
 
--- the first frames, and those behind them
+-- the first frames, and those after them
 pub first_frames-add : (coding : Coding) (channels n k : ℕ) (bytes : List ℕ)
     → first_frames coding channels (n + k) bytes ≡ first_frames coding channels n bytes ++ first_frames coding channels k (drop (n * frame_size coding channels) bytes)
 first_frames-add coding channels n k bytes =

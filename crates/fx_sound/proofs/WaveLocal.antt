@@ -1,4 +1,4 @@
--- A step depends on no byte behind its end.
+-- A step depends on no byte after its end.
 use Rattle.std.proofs.Common.{◌≡◌, ℕ, ◌+◌, ◌-◌, min, ◌<◌, ◌≤◌, inl, inr, List, length, take, drop, Bool, true, false, refl, ap, ◌∙◌, arith, nat_lt, Ok, Err, Result, Option, Some, if◌then◌else◌}
 use Rattle.fx_sound.specs.declared.fields.Format.{Format}
 use Rattle.fx_sound.specs.declared.wave.Demand.{Demand}

@@ -10,7 +10,7 @@ use Rattle.fx_frame.specs.History.{sample_before}
 use Rattle.fx_frame.proofs.Tables.{map-tabulate, pieces-table}
 use Rattle.fx_frame_base.proofs.Tabulate.{tabulate-same}
 
--- so many frames behind those of a line, sample by sample
+-- so many frames after those of a line, sample by sample
 pub delay-frames : (delays : List ℕ) (items xs : List Samples) (n : ℕ) (out : List ℤ) → length xs ≡ n → n * length delays ≤ length out
     → ((i k : ℕ) → i < n → k < length delays → get_or out (i * length delays + k) (pos 0) ≡ sample_before (items ++ xs) (length items + i) (slice_index delays k) k) → pieces (length delays) n out ≡ frames_after delay_taps delays items xs
 delay-frames delays items xs n out many free put =

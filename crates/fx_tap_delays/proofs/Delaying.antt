@@ -43,7 +43,7 @@ module _ (ch silent_frames count : ℕ) (old mid rest_unchanged : List ℤ) (bou
       ∙ ap (λ l. replicate silent_frames (silence ch) ++ l) made
       ∙ sym (replicate-front (silence ch) places count ys silent_frames e)
 
-  -- and the output behind them stays
+  -- and the output after them stays
   pub even-rest_unchanged : drop ((count - silent_frames) * ch) rest_unchanged ≡ drop ((count - silent_frames) * ch) (take (length mid - silent_frames * ch) (drop (silent_frames * ch) mid)) → drop (count * ch) (put_mid (silent_frames * ch) (length mid - silent_frames * ch) mid rest_unchanged) ≡ drop (count * ch) old
   even-rest_unchanged stays =
       let both : count ≡ silent_frames + (count - silent_frames) = omega arith in
@@ -106,7 +106,7 @@ module _ (delays : List ℕ) (reach : ℕ) (all : (k : ℕ) → k < length delay
         ∙ ap (λ n. get_or (items ++ coming) n []) at
         ∙ sym (get_or-append_right (replicate (reach - length items) (silence (length delays))) (items ++ coming) (reach - length items) k [] f h))
 
-    -- frames behind those of a line
+    -- frames after those of a line
     pub even-effective : take (length coming) (replicate (reach - length items) (silence (length delays)) ++ (items ++ coming)) ≡ frames_after delay_taps delays items coming
     even-effective =
         let y : List Samples = replicate (reach - length items) (silence (length delays)) ++ (items ++ coming) in
@@ -120,7 +120,7 @@ module _ (delays : List ℕ) (reach : ℕ) (all : (k : ℕ) → k < length delay
 pub even-clips : (delays : List ℕ) (items coming : List Samples) → clips_after delay_taps delays items coming ≡ 0
 even-clips delays items coming = no-clips (λ n. delayed_frame delays (sample_before (items ++ coming) n)) (length items) (length coming)
 
--- the frame that takes the place of one behind those of a line
+-- the frame that takes the place of one after those of a line
 pub even-one : (delays : List ℕ) (line : Frames ℤ) (x : Samples) → ((k : ℕ) → k < length delays → slice_index delays k ≡ line.capacity) → IsLine w32 line → line.channels ≡ length delays → length x ≡ length delays
     → cond (nat_lt (length line.items) line.capacity) (silence (length x)) (get_or (line.items ++ x ∷ []) 0 []) ≡ delayed_frame delays (sample_before (line.items ++ x ∷ []) (length line.items))
 even-one delays line x all is same wide = go (nat_lt (length line.items) line.capacity) refl
@@ -143,7 +143,7 @@ module _ (delays : List ℕ) (line : Frames ℤ) (n : ℕ) (input out : List ℤ
       let sides : All (λ (f : Samples). length f ≡ length delays) line.items = λ k d h. (is.frames k d h).count ∙ same in
       ap (λ m. take m (replicate (line.capacity - length line.items) (silence (length delays)) ++ (line.items ++ pieces (length delays) n input))) (sym (length-pieces (length delays) n input)) ∙ (even-effective delays line.capacity all line.items (pieces (length delays) n input) is.within sides (pieces-sides (length delays) n input free))
 
-  -- so many frames behind those of a line, as they were written
+  -- so many frames after those of a line, as they were written
   pub even-all : (width : ℕ) → width ≡ length delays → pieces line.channels n out ≡ take n (replicate (line.capacity - length line.items) (silence line.channels) ++ (line.items ++ pieces line.channels n (take (n * width) input)))
       → pieces (length delays) n out ≡ frames_after delay_taps delays line.items (pieces (length delays) n input)
   even-all width wide written = (rw (same, wide, pieces-take (length delays) n input free) at written) ∙ coming

@@ -35,7 +35,7 @@ frame-wide : (a : EchoArguments) (x : Samples) (line_output : List Samples) → 
 frame-wide a x line_output = length-map _ _ ∙ length-tabulate _ 0 a.channels
 
 module _ (a : EchoArguments) where
-  -- such a stage with no frame in hand, which has given what it took
+  -- such a stage with no pending frame, which has given what it took
   abbrev pub ready : List (Frames ℤ) → ℕ → ℕ → EchosState
   ready lines count clips = record { arguments = a; lines = lines; core = passed_core count clips; tail = 0 }
 
@@ -109,7 +109,7 @@ module _ (a : EchoArguments) where
         rw (many, clipped) at more,
       )
 
--- such a stage is one with no frame in hand that has not ended
+-- such a stage is one with no pending frame that has not ended
 ready-is : (s : EchosState) → IsEchos s → s.core.pending ≡ None → s.core.ended ≡ false → ready s.arguments s.lines s.core.taken s.core.clips ≡ s
 ready-is s is none running =
     let zero : s.core.pending_clips ≡ 0 = is.core.idle (rw none refl) in

@@ -127,7 +127,7 @@ frames-late s is =
 
 -- ---- what comes and goes
 
--- what the lines let go for a frame
+-- what falls out of the lines for a frame
 abbrev pub series_outputs : EchosState → Samples → List Samples
 series_outputs s x = line_outputs s.arguments.channels s.lines x (replicate s.arguments.channels (pos 0))
 

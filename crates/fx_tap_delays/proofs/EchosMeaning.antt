@@ -126,7 +126,7 @@ module _ (c : ℕ) (w : List Samples) (es : List Tap) where
   abbrev series_line : ℕ → ℕ → Frames ℤ
   series_line n j = record { items = tabulate (taken_at j) (n - min n (delay_at es j)) (min n (delay_at es j)); capacity = delay_at es j; channels = c }
 
-  -- what was let go is read as what comes out of j lines
+  -- what fell out is read as what comes out of j lines
   abbrev IsLineOutput : ℕ → ℕ → Samples → Type 0
   IsLineOutput n j b = (k : ℕ) → k < c → get_or b k (pos 0) ≡ passed es (sample_before w n) j k
 
@@ -173,7 +173,7 @@ module _ (c : ℕ) (w : List Samples) (es : List Tap) where
   line_output-is : (n j : ℕ) → j < length es → 1 ≤ delay_at es j → IsLineOutput n (suc j) (or_silence c (pushed_out (series_line n j) (taken_at j n)))
   line_output-is n j lt some = line_output-by n j (nat_lt (length (series_line n j).items) (delay_at es j)) lt some refl
 
-  -- the lines after one frame more, and what they let go
+  -- the lines after one frame more, and what falls out of them
   series-step : (n j count : ℕ) (b : Samples) → ((i : ℕ) → i < length es → 1 ≤ delay_at es i) → j + count ≤ length es → IsLineOutput n j b
       → (lines_after c (tabulate (series_line n) j count) (get_or w n []) b ≡ tabulate (series_line (n + 1)) j count)
       × ((k : ℕ) → k < c → channel_of (line_outputs c (tabulate (series_line n) j count) (get_or w n []) b) k (pos 0) ≡ tabulate (λ i. passed es (sample_before w n) (suc i) k) j count)

@@ -25,7 +25,7 @@ use Rattle.fx_frame_base.proofs.ChannelPlaces.{within-frames}
 
 -- ---- one line
 
--- what a line lets go for frames that come one after the other, or silence
+-- what falls out of a line for frames that come one after the other, or silence
 abbrev pub let_out : ℕ → Frames ℤ → List Samples → List Samples
 let_out c l [] = []
 let_out c l (f ∷ fs) = or_silence c (pushed_out l f) ∷ let_out c (after_push l f) fs
@@ -101,13 +101,13 @@ pushed-is l new fs within items capacity channels = same-line new l.channels l.c
 
 -- ---- a row of lines
 
--- each frame and what the line before let go for it, added
+-- each frame and what fell out of the line before for it, added
 abbrev pub fed_all : ℕ → List Samples → List Samples → List Samples
 fed_all c [] bs = []
 fed_all c (x ∷ xs) [] = []
 fed_all c (x ∷ xs) (b ∷ bs) = fed c x b ∷ fed_all c xs bs
 
--- what each line lets go for all frames
+-- what falls out of each line for all frames
 abbrev pub series_outputs : ℕ → List (Frames ℤ) → List Samples → List Samples → List (List Samples)
 series_outputs c [] xs bs = []
 series_outputs c (l ∷ ls) xs bs = let_out c l (fed_all c xs bs) ∷ series_outputs c ls xs (let_out c l (fed_all c xs bs))
@@ -117,7 +117,7 @@ abbrev pub series_after : ℕ → List (Frames ℤ) → List Samples → List Sa
 series_after c [] xs bs = []
 series_after c (l ∷ ls) xs bs = after_all l (fed_all c xs bs) ∷ series_after c ls xs (let_out c l (fed_all c xs bs))
 
--- what all lines let go for one of the frames
+-- what falls out of all lines for one of the frames
 abbrev pub column : ℕ → List (List Samples) → List Samples
 column i line_output = map (λ (gs : List Samples). get_or gs i []) line_output
 
@@ -145,7 +145,7 @@ series_after-is c ls [] = series-none c ls []
 series_after-is c ls (x ∷ xs) =
     series-lines c ls x (replicate c (pos 0)) xs (replicate (length xs) (replicate c (pos 0))) ∙ series_after-is c (lines_after c ls x (replicate c (pos 0))) xs
 
--- and so does what they let go
+-- and so does what falls out of them
 pub column-is : (c i : ℕ) (ls : List (Frames ℤ)) (xs : List Samples) → i < length xs → column i (series_outputs c ls xs (replicate (length xs) (replicate c (pos 0)))) ≡ line_outputs_at c ls xs i
 column-is c i ls [] lt = absurd (omega arith)
 column-is c zero ls (x ∷ xs) lt = series-first c ls x (replicate c (pos 0)) xs (replicate (length xs) (replicate c (pos 0)))
@@ -173,7 +173,7 @@ series_lines-more c ls (x ∷ xs) ys = series_lines-more c (lines_after c ls x (
 
 -- ---- samples that lie one after another
 
--- the sums of so many frames and what the line before let go
+-- the sums of so many frames and what fell out of the line before
 pub fed-pieces : (c n : ℕ) (ys frames before : List ℤ) → n * c ≤ length ys → ((k : ℕ) → k < n * c → get_or ys k (pos 0) ≡ get_or frames k (pos 0) +ℤ get_or before k (pos 0)) → pieces c n ys ≡ fed_all c (pieces c n frames) (pieces c n before)
 fed-pieces c zero ys frames before free h = refl
 fed-pieces c (suc n) ys frames before free h =
@@ -200,7 +200,7 @@ flat-small c (suc n) m xs long all k = go (cases_lt k c) (flat-small c n m (drop
         let there : unsigned_abs (get_or xs (c + (k - c)) (pos 0)) ≤ m = rw (get_or-drop c xs (k - c) (pos 0)) at more in
         rw at at there
 
--- what a line lets go is no larger than its frames
+-- what falls out of a line is no larger than its frames
 pub latest-small : (m n late : ℕ) (l : Frames ℤ) → All (All (λ x. unsigned_abs x ≤ m)) l.items → All (All (λ x. unsigned_abs x ≤ m)) (take n (latest_frames (pos 0) late l))
 latest-small m n late l small =
     let silent_frame : All (λ x. unsigned_abs x ≤ m) (replicate l.channels (pos 0)) = All-replicate (λ x. unsigned_abs x ≤ m) l.channels (pos 0) (omega arith) in
@@ -234,7 +234,7 @@ series_lines-step c p old now new xs bs line_output W lt same is left e =
     ∙ ap (λ gs. take p now ++ (after_all (line_at old p) (fed_all c xs bs) ∷ series_after c (drop (p + 1) old) xs gs)) left
     ∙ ap (λ ls. take p now ++ series_after c ls xs bs) (sym more) ∙ e
 
--- the product at one place, and those behind it
+-- the product at one place, and those after it
 products-at : (ws : List ℤ) (j : ℕ) (g : ℤ) (rest : List ℤ) → sum_of_products (drop j ws) (g ∷ rest) ≡ (get_or ws j (pos 0) *ℤ g) +ℤ sum_of_products (drop (j + 1) ws) rest
 products-at [] zero g rest = omega (arith, ints)
 products-at [] (suc j) g rest = let e : suc j + 1 ≡ suc (j + 1) = omega arith in rw e (omega (arith, ints))

@@ -25,7 +25,7 @@ delay-is (e ∷ es) (suc i) d lt = delay-is es i d (omega arith)
 abbrev pub held_at : ℕ → List Tap → ℕ → ℕ
 held_at came taps i = min came (delay_at taps i)
 
--- the line at a place, where these frames are left for it and those behind it
+-- the line at a place, where these frames are left for it and those after it
 pub record IsNext (channels came : ℕ) (taps : List Tap) (lines : List (Frames ℤ)) (rest : List Samples) (i : ℕ) : Type 0 where
   pub here : IsEchoLine channels came i (delay_at taps i) (line_at lines i)
   pub free : held_at came taps i ≤ length rest
@@ -77,6 +77,6 @@ thawed-sound channels came j delay l part e lined small some long = record {
   small = small;
 }
 
--- no line is left behind the last
+-- no line is left after the last
 pub none-left : (channels came : ℕ) (taps : List Tap) (lines : List (Frames ℤ)) (i : ℕ) → IsSeries channels came taps lines → length taps ≤ i → frames_of_lines (drop i lines) ≡ []
 none-left channels came taps lines i series over = ap frames_of_lines (drop_all i lines (let many = series.as_many in omega arith))

@@ -26,7 +26,7 @@ module _ (s : EchosState) (a : EchoArguments) (frames : List Samples) (numbers :
         counted = is.counted ∙ ap (λ n. s.core.taken + n) (flag-times s.core.ended (sum_of_delays s.arguments.echo.taps));
       }
 
-  -- its lines and the frame in hand are stored
+  -- its lines and the pending frame are stored
   pub series-is : IsSeriesStored a.channels (slice_index_or numbers 1 0 + slice_index_or numbers 6 0) a.echo.taps (slice_index_or numbers 6 0) frames s.lines s.core.pending
   series-is = rw (froze.counted, ← made) record {
     series = record { as_many = is.as_many; lines_are = is.lines };

@@ -9,7 +9,7 @@ Tap = ℕ × ℤ
 abbrev pub tap_delay : Tap → ℕ
 tap_delay tap = tap.0
 
--- by how many frames taps in a row are late together
+-- by how many frames taps in sequence are late together
 abbrev pub sum_of_delays : List Tap → ℕ
 sum_of_delays [] = 0
 sum_of_delays (tap ∷ taps) = tap_delay tap + sum_of_delays taps

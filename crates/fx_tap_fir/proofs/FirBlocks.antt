@@ -40,7 +40,7 @@ fir-near r p q agree =
 
 -- ---- one channel after the other
 
--- behind a full line each place of the window is that of a frame
+-- after a full line each place of the window is that of a frame
 pub filtered-window : (b : List ℤ) (items xs : List Samples) (channel i : ℕ) → length items + 1 ≡ length b
     → rounding (sum_of_products (drop i (channel_of (items ++ xs) channel (pos 0))) b) UNIT ≡ filtered_sample (reverse b) (items ++ xs) (length items + i) channel
 filtered-window b items xs channel i full =
@@ -53,7 +53,7 @@ filtered-window b items xs channel i full =
 
 -- ---- frames of places
 
--- the frames that are made of frames behind those of a line
+-- the frames that are made of frames after those of a line
 pub block-frames : (r : FirArguments) (items xs : List Samples) (n : ℕ) (out : List ℤ) → length xs ≡ n → n * r.channels ≤ length out
     → ((i c : ℕ) → i < n → c < r.channels → get_or out (i * r.channels + c) (pos 0) ≡ (filtered_sample r.coefficients (items ++ xs) (length items + i) c).0) → pieces r.channels n out ≡ frames_after fir_taps r items xs
 block-frames r items xs n out many free put =
@@ -78,7 +78,7 @@ block-clips r items xs n clips many counted =
     counted ∙ total-same clips_rounded (λ (g : Given). g.clips) _ (λ m. fir_taps.made r (sample_before (items ++ xs) m)) 0 (length items) n (λ k l. rw zero-add refl)
     ∙ ap (λ k. total (λ (g : Given). g.clips) (tabulate (λ m. fir_taps.made r (sample_before (items ++ xs) m)) (length items) k)) (sym many)
 
--- what was written behind the frames so far
+-- what was written after the frames so far
 pub pieces-joined : (size n m : ℕ) (out made rest new : List ℤ) → n * size ≤ length out → length made ≡ m * size → new ≡ take (n * size) out ++ (made ++ rest) → pieces size (n + m) new ≡ pieces size n out ++ pieces size m made
 pieces-joined size n m out made rest new long sides written =
     let front : length (take (n * size) out) ≡ n * size = length-take-le (n * size) out long in
@@ -87,7 +87,7 @@ pieces-joined size n m out made rest new long sides written =
     let given_after : drop (n * size) new ≡ made ++ rest = rw written (drop_at (take (n * size) out) (made ++ rest) (n * size) front) in
     pieces-split size n m new ∙ ap (λ ps. ps ++ pieces size m (drop (n * size) new)) (pieces-same size n new out all long kept) ∙ ap (λ l. pieces size n out ++ pieces size m l) given_after ∙ ap (λ ps. pieces size n out ++ ps) (pieces-front size m made rest sides)
 
--- ---- a window of a line and of frames behind it
+-- ---- a window of a line and of frames after it
 
 pub window-joined : (items xs : List Samples) (channel held : ℕ) (held_samples window column rest : List ℤ) → held_samples ≡ channel_of items channel (pos 0) → held ≡ length items → column ≡ channel_of xs channel (pos 0) → rest ≡ []
     → take held (held_samples ++ window) ++ (column ++ rest) ≡ channel_of (items ++ xs) channel (pos 0)
@@ -150,7 +150,7 @@ module _ (channels : ℕ) (b : List ℤ) where
   abbrev pub through : Frames ℤ → List Samples → Frames ℤ
   through line xs = record { items = last_of line.capacity (line.items ++ xs); capacity = line.capacity; channels = line.channels }
 
-  -- what is made of a frame behind those of the line
+  -- what is made of a frame after those of the line
   abbrev pub made_after : Frames ℤ → Samples → Given
   made_after line x = filtered_frame made_with (line.items ++ x ∷ []) (length line.items)
 

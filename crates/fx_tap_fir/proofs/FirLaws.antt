@@ -35,7 +35,7 @@ last-set whole [] n v long one = absurd (omega arith)
 last-set whole (w ∷ []) n v long one = rw (← long) (set-append_seam _ _ _ _)
 last-set whole (w ∷ u ∷ rest) n v long one = absurd (omega arith)
 
--- the latest sample comes behind those of the line
+-- the latest sample comes after those of the line
 pub window-filled : (items latest : List Samples) (window : List ℤ) (channel : ℕ) (f : Samples) (v : ℤ) → length latest ≤ 1 → slice_get latest 0 ≡ Some f → length window ≡ length items + length latest → v ≡ get_or f channel (pos 0)
     → set (channel_of items channel (pos 0) ++ drop (length items) window) (length items) v ≡ channel_of (items ++ latest) channel (pos 0)
 window-filled items latest window channel f v bound e long is =

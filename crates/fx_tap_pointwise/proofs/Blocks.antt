@@ -20,7 +20,7 @@ use Rattle.fx_frame.specs.Made.{clips_in, made_of, rounded_given}
 use Rattle.fx_frame_base.specs.Rounded.{samples_of}
 use Rattle.fx_frame.proofs.SamplePieces.{pieces-samples, pieces-sides}
 
--- the same where the samples are those of so many frames, and others lie behind
+-- the same where the samples are those of so many frames, and others lie after
 pub pieces-rounded : (f : ℤ → ℤ × Bool) (size n : ℕ) (xs out rest_unchanged new : List ℤ) → n * size ≤ length xs → out ≡ samples_of (map f (take (n * size) xs)) → new ≡ out ++ rest_unchanged → pieces size n new ≡ made_of (rounded_given f) (pieces size n xs)
 pieces-rounded f size n xs out rest_unchanged new h e w =
     let long : length (take (n * size) xs) ≡ n * size = length-take-le (n * size) xs h in

@@ -11,7 +11,7 @@ use Rattle.fx_frame.specs.Made.{clips_in, made_of, rounded_given}
 use Rattle.fx_frame.proofs.SamplePieces.{clips-samples, pieces-samples, pieces-sides}
 
 module _ (f h : ℤ → ℤ × Bool) where
-  -- the second behind the first
+  -- the second after the first
   one-by-one : (xs : List ℤ) → map (λ x. h (f x).0) xs ≡ map h (samples_of (map f xs))
   one-by-one [] = refl
   one-by-one (x ∷ xs) = ap (λ l. h (f x).0 ∷ l) (one-by-one xs)

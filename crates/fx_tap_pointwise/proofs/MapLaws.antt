@@ -26,7 +26,7 @@ pub record AreMapCounts (stored : ℕ) (ns : List ℕ) : Type 0 where
   pub third_counter : slice_index_or ns 7 0 ≡ 0
   pub counted : slice_index_or ns 1 0 + slice_index_or ns 4 0 ≡ slice_index_or ns 0 0
 
--- a frame in hand is known by what is stored of it
+-- a pending frame is known by what is stored of it
 pub pending-is : {A : Type 0} (a b : Option A) → option_to_list a ≡ option_to_list b → a ≡ b
 pending-is None None e = refl
 pending-is None (Some y) e = absurd (cc)

@@ -25,7 +25,7 @@ agree (x ∷ xs) (y ∷ ys) (c ∷ cs) x_long y_long are =
     rw (first, rest) refl
 agree _ _ _ x_long y_long are = absurd (omega arith)
 
--- a window that is cut behind the places that count
+-- a window that is cut after the places that count
 pub cut : (n i : ℕ) (w ws : List ℤ) → n ≤ length w → i + length ws ≤ n → sum_of_products (drop i (take n w)) ws ≡ sum_of_products (drop i w) ws
 cut n i w ws bound lt =
     let front = length-take-le n w bound in
@@ -48,7 +48,7 @@ times r [] cs = let none = product_is r (pos 0) in omega (arith, ints)
 times r (x ∷ xs) [] = let none = product_is r (pos 0) in omega (arith, ints)
 times r (x ∷ xs) (c ∷ cs) = omega (arith, ints, times r xs cs, mul_swap x r c, mul-add r (x *ℤ c) (sum_of_products xs cs))
 
--- ---- zeros behind a list
+-- ---- zeros after a list
 
 pub padded_at : (n : ℕ) (xs : List ℤ) (k : ℕ) → get_or (padded_weights n xs) k (pos 0) ≡ get_or xs k (pos 0)
 padded_at n xs k = zeros-rest xs (n - length xs) k

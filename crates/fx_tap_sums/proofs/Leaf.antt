@@ -151,7 +151,7 @@ sum_is a b c d s t u v w is i j k l = omega (arith, is, i, j, k, l)
 from_place : (g : List ℕ) (x r m n : ℕ) → r ≡ x * get_or g m 0 → m ≡ n → r ≡ x * get_or g n 0
 from_place g x r m n is e = rw (← e) is
 
--- the sums of the code are those of the four numbers and, wrapped, the four behind them
+-- the sums of the code are those of the four numbers and, wrapped, the four after them
 pub leaf_sums_are : (g : List ℕ) (at : ℕ) (xs one two three four sums : List ℕ) → LeafProducts g at xs one two three four → LaneSums one two three four sums →
     (k : ℕ) → k < 4 → get_or sums k 0 ≡ get_or (leaf_sums xs (four_from g at) (four_from g (at + 4))) k 0
 leaf_sums_are g at xs one two three four sums are s =

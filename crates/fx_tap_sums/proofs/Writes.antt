@@ -10,7 +10,7 @@ pub each_more : {X : Type 0} (d : X) (P : ℕ → X → Type 0) (xs : List X) (i
     (k : ℕ) → k < i + 1 → P k (get_or (set xs i v) k d)
 each_more d P xs i v lt here before = below_more _ _ (λ k h. let ne : k ≢ i = omega arith in rw get_or-set_other (before k h)) (rw get_or-set_same here)
 
--- the places behind it
+-- the places after it
 pub each_left : {X : Type 0} (d : X) (xs ys : List X) (i : ℕ) (v : X) → ((k : ℕ) → i ≤ k → get_or xs k d ≡ get_or ys k d) → (k : ℕ) → i + 1 ≤ k → get_or (set xs i v) k d ≡ get_or ys k d
 each_left d xs ys i v left k h = let ne : k ≢ i = omega arith in rw get_or-set_other (left k (omega arith))
 
@@ -25,7 +25,7 @@ four_more P at xs ys lanes kept put here before i lt = elim (cases_lt i at) [
       rw place at (rw (← put (i - at) k) at (here (i - at) k))
 ]
 
--- the places behind them
+-- the places after them
 pub four_left : (at : ℕ) (xs ys zs : List ℕ) → ((i : ℕ) → at + 4 ≤ i → get_or ys i 0 ≡ get_or xs i 0) → ((i : ℕ) → at ≤ i → get_or xs i 0 ≡ get_or zs i 0) → (i : ℕ) → at + 4 ≤ i → get_or ys i 0 ≡ get_or zs i 0
 four_left at xs ys zs kept left i h = kept i h ∙ left i (omega arith)
 
@@ -46,7 +46,7 @@ remainders_both p xs ys first second i lt =
       | inr above ↦ rw (get_or-append_right xs ys (length xs) i 0 refl above) (second (i - length xs) (omega arith))
     ]
 
--- one remainder more behind others
+-- one remainder more after others
 pub remainder_pushed : (p : ℕ) (xs : List ℕ) (v : ℕ) → v < p → AreRemainders p xs → AreRemainders p (xs ++ v ∷ [])
 remainder_pushed p xs v less are = remainders_both p xs (v ∷ []) are (one v less)
   where

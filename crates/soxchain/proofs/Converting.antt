@@ -40,7 +40,7 @@ held-is s reader b r h = ap₂ (λ bs x. record { bytes = bs; reader = x; short 
 pub to_come-start : {R : Type 0} (rest : R → Option (List ℕ)) (s : Held R) (reader : R) (bytes : List ℕ) → s.bytes ≡ [] → s.reader ≡ reader → rest reader ≡ Some bytes → to_come rest s ≡ Some bytes
 to_come-start rest s reader bytes b r k = ap (λ bs. prepend_known bs (rest s.reader)) b ∙ ap (λ x. prepend_known [] (rest x)) r ∙ ap (prepend_known []) k
 
--- what was held behind so many bytes more, by the reader's count from the first byte of the input on
+-- what was held after so many bytes more, by the reader's count from the first byte of the input on
 HoldsWhatCame-rest_unchanged : {R : Type 0} (delivered : R → ℕ) (first at new : Held R) (bytes : List ℕ) (offset n : ℕ) → Takes delivered first at offset → HoldsWhatCame delivered at new (drop offset bytes) n → HoldsWhatCame delivered first new bytes (offset + n)
 HoldsWhatCame-rest_unchanged delivered first at new bytes offset n t h =
     let there = t.enough in
@@ -69,7 +69,7 @@ SourceStands-run reads source new h bytes P Q f (Err (Faults.WriteFailed r)) (in
 SourceStands-run reads source new h bytes P Q f (Err (Faults.WriteFailed r)) (inr before) = inr (rw from-zero before.0, f before.1)
 SourceStands-run reads source new h bytes P Q f (Err (Faults.TooLong r)) there = there
 
--- where a source stands behind the head, from the first byte of the input on
+-- where a source stands after the head, from the first byte of the input on
 pub SourceStands-rest_unchanged : {R : Type 0} (reads : ByteReader R) (first at new : Held R) (h : Head) (offset : ℕ) (bytes : List ℕ) (P Q : Type 0) (ended : Result Report RunFault) → Takes reads.delivered first at offset → (P → Q)
     → SourceStands reads at new h 0 (drop offset bytes) ended P → SourceStands reads first new h offset bytes ended Q
 SourceStands-rest_unchanged reads first at new h offset bytes P Q (Ok r) t f there = there

@@ -21,14 +21,14 @@ ReportedFront-longer first now failures new all text t = record {
   failed = t.failed;
 }
 
--- a whole text behind all that was told
+-- a whole text after all that was told
 pub ReportedAll-more : (first now new : Option (List ℕ)) (failures before after : ℕ) (all text : List ℕ) → ReportedAll first now failures before all → Appends now new text → after ≡ before → ReportedAll first new failures after (all ++ text)
 ReportedAll-more first now new failures before after all text t a e = record {
   took = Appends-trans first now new all text t.took a;
   unfailed = e ∙ t.unfailed;
 }
 
--- a front of a text behind all that was told
+-- a front of a text after all that was told
 pub ReportedFront-more : (first now new : Option (List ℕ)) (failures before after : ℕ) (all text : List ℕ) → ReportedAll first now failures before all → ReportedFront now new before after text → ReportedFront first new failures after (all ++ text)
 ReportedFront-more first now new failures before after all text t f = record {
   count = length all + f.count;
@@ -37,7 +37,7 @@ ReportedFront-more first now new failures before after all text t f = record {
   failed = rw t.unfailed at f.failed;
 }
 
--- a text behind all that was told, wherever the writer failed
+-- a text after all that was told, wherever the writer failed
 pub Delivered-text : (whole : Bool) (first now new : Option (List ℕ)) (failures before after : ℕ) (all text : List ℕ) → ReportedAll first now failures before all
     → MatchBool whole (Appends now new text × (after ≡ before)) (ReportedFront now new before after text) → Delivered (not whole) first new failures after (all ++ text)
 Delivered-text true first now new failures before after all text t h = ReportedAll-more first now new failures before after all text t h.0 h.1
@@ -61,14 +61,14 @@ pub warning-counted : (counted : List ℕ) (n : ℕ) → 0 < n → warning count
 warning-counted counted zero h = absurd (omega arith)
 warning-counted counted (suc n) h = refl
 
--- two texts, one behind the other
+-- two texts, one after the other
 pub Says-then : {M : Type 0} (writes : ByteWriter M) (a b c : MessageWriter M) (s t : List ℕ) → Says writes a b s → Says writes b c t → Says writes a c (s ++ t)
 Says-then writes a b c s t first second = record {
   same = second.same ∙ first.same;
   more = λ start count all delivered. rw (sym (append_assoc all s t)) (second.more start count (all ++ s) (first.more start count all delivered));
 }
 
--- three texts, one behind the other
+-- three texts, one after the other
 pub Says-three : {M : Type 0} (writes : ByteWriter M) (a b c d : MessageWriter M) (s t u : List ℕ) → Says writes a b s → Says writes b c t → Says writes c d u → Says writes a d (s ++ t ++ u)
 Says-three writes a b c d s t u first second third = Says-then writes a c d (s ++ t) u (Says-then writes a b c s t first second) third
 

@@ -4,7 +4,7 @@ use Rattle.std.proofs.lemmas.List.{length-take}
 use Rattle.soxchain.specs.MessageWriter.{Delivered, TellsBytes}
 use Rattle.soxchain_c.specs.Messages.{ReportedBytes}
 
--- a writer that fails only behind its first 4,096 bytes has all of a text, or these at least
+-- a writer that fails only after its first 4,096 bytes has all of a text, or these at least
 delivered-as : (has_failed : Bool) (failures : ℕ) (messages text : List ℕ) → (0 < failures → 4096 ≤ length messages) → Delivered has_failed (Some []) (Some messages) 0 failures text → ReportedBytes messages text
 delivered-as false failures messages text long t = inl t.took
 delivered-as true failures messages text long t =

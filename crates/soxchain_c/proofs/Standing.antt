@@ -13,7 +13,7 @@ use Rattle.fx_chain_run.specs.Report.{report_in}
 use Rattle.fx_sound.specs.Sound.{within_sound}
 use Rattle.soxchain_c.specs.Conversion.{AreThere}
 
--- whole frames and what is left behind them are no more than all bytes
+-- whole frames and what is left after them are no more than all bytes
 within-all : (frames stray size bytes : ℕ) → frames ≤ bytes / size → stray ≤ bytes % size → frames * size + stray ≤ bytes
 within-all frames stray size bytes bound left = omega (arith, mul-le-mul_right size bound, left, div-add-mod' bytes size)
 

@@ -71,7 +71,7 @@ module _ {H R : Type 0} (o : Opened H R) (reads : ByteReader R) (old between new
   memory_refused-closed (Ok x) delivered = tt
   memory_refused-closed (Err fault) delivered = λ memory_refused. opened-closed 0 (delivered memory_refused ∙ fresh.unfailed)
 
--- one more file was read behind those that were
+-- one more file was read after those that were
 read-more : {H R : Type 0} (o : Opened H R) (reads : ByteReader R) (old mid new : H) (names files : List (List ℕ)) (name bytes : List ℕ)
     → AreRead o reads old mid names files → IsFront o reads mid new name bytes → AreRead o reads old new (names ++ name ∷ []) (files ++ bytes ∷ [])
 read-more o reads old mid new [] [] name bytes are front = (new, rw are at front, refl)

@@ -41,7 +41,7 @@ all-none P zs e = subst (All P) (sym e) (All-nil P)
 pub all-more : {X : Type 0} (P : X → Type 0) (xs zs : List X) (x : X) → zs ≡ xs ++ x ∷ [] → All P xs → P x → All P zs
 all-more P xs zs x e h p = subst (All P) (sym e) (All-append P xs (x ∷ []) h (All-cons P x [] p (All-nil P)))
 
--- these frames are told behind effects of which the rest is to come, and these are left, where the first of all takes n
+-- these frames are told after effects of which the rest is to come, and these are left, where the first of all takes n
 pub record Counted (acts rest : List Act) (delivered : List (Option ℕ)) (left : Option ℕ) (n : ℕ) : Type 0 where
   pub now : ℕ
   pub is : left ≡ Some now
@@ -67,7 +67,7 @@ counted-more acts rest a delivered left next n c h =
       short = within.1;
     }
 
--- of effects whose frames behind so many are those of their definitions, as a number
+-- of effects whose frames after so many are those of their definitions, as a number
 pub by-number : (a : Act) (channels m : ℕ) (left next : Option ℕ)
     → ((sound : List Samples) → left ≡ Some (length sound) → next ≡ Some (min (length (meaning_at (recipe_at (InPlace channels a)) sound)) (2 ^ 64 - 1)))
     → left ≡ Some m → next ≡ Some (min (made_of a m) (2 ^ 64 - 1))

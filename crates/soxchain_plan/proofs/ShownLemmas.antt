@@ -66,7 +66,7 @@ effect_lines-more number (e ∷ effects) effect =
     ∙ append_assoc (effect_line number e) (effect_lines (number + 1) effects) (effect_line (number + 1 + length effects) effect)
     ∙ ap (λ text. effect_line number e ++ text) (effect_lines-more (number + 1) effects effect)
 
--- the first effect of an array, and one more behind others
+-- the first effect of an array, and one more after others
 pub effects_json-first : (effect : EffectOutline) → [] ++ effect_json effect ≡ effects_json (effect ∷ [])
 effects_json-first effect = sym (append-nil (effect_json effect))
 

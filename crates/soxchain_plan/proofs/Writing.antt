@@ -1,9 +1,9 @@
--- What writes in a row append.
+-- What writes one after another append.
 use Rattle.std.proofs.Common.{ℕ, List, ◌++◌, OnOk, Option, Result, Ok, Err, ◌≡◌, subst}
 use Rattle.std.proofs.KnownBytes.{Appends-trans}
 use Rattle.std.specs.Io.KnownBytes.{Appends}
 
--- a write behind another one, of which the text is both their texts
+-- a write after another one, of which the text is both their texts
 pub appends_both : (a b c : Option (List ℕ)) (first second text : List ℕ) → first ++ second ≡ text → Appends a b first → Appends b c second → Appends a c text
 appends_both a b c first second text e p q = subst (Appends a c) e (Appends-trans a b c first second p q)
 

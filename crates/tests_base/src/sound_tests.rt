@@ -231,7 +231,7 @@ fn read_two_frames(alloc: Global, source: &mut Source<Tape>) -> Result<(), &'sta
     Ok(())
 }
 
-/// Behind the sound the reader is at its end.
+/// After the sound the reader is at its end.
 #[test]
 fn au_two_frames(rt: HostRuntime) -> Result<(), &'static str> {
     let tape = tape_of(rt.alloc(), &[TWO_FRAMES], 1)?;

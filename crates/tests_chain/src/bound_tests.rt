@@ -88,7 +88,7 @@ fn bounds(rt: HostRuntime) -> Result<(), &'static str> {
     check_bounds(alloc, TWELVE_EFFECTS, &[8; 4], &samples, twelve)
 }
 
-/// The steps of two effects that a frame goes through, and those behind the end, of which two are idle.
+/// The steps of two effects that a frame goes through, and those after the end, of which two are idle.
 fn make_idle_steps(chain: &mut Chain) -> Result<(), &'static str>
     requires { chain.old.plan.head.channels ≡ 1 }
 {
@@ -118,7 +118,7 @@ fn make_idle_steps(chain: &mut Chain) -> Result<(), &'static str>
     Ok(())
 }
 
-/// Fails where a chain of two effects holds other frames, makes other steps, or is not done behind them.
+/// Fails where a chain of two effects holds other frames, makes other steps, or is not done after them.
 fn two_idle_steps(alloc: Global) -> Result<(), &'static str> {
     let mut chain = chain_of(alloc, TWO_EFFECTS)?;
     make_idle_steps(&mut chain)
@@ -175,7 +175,7 @@ fn give_at_once(chain: &mut Chain) -> Result<(), &'static str>
     Ok(())
 }
 
-/// Fails where a chain of no effect does not give its frame, or is not done behind the end.
+/// Fails where a chain of no effect does not give its frame, or is not done after the end.
 fn empty_chain(alloc: Global) -> Result<(), &'static str> {
     let mut chain = chain_of(alloc, "")?;
     give_at_once(&mut chain)

@@ -9,7 +9,7 @@
 //! - `samples SAMPLE ..`: it goes on with these samples of 32 bits.
 //! - `bytes HEX ..`: it goes on with these bytes.
 //! - `file TEXT`: the next coefficient file, with `|` for a line feed.
-//! - `reader fails`: the read behind the last byte fails.
+//! - `reader fails`: the read after the last byte fails.
 //! - `reader fails CALL once`, `reader fails CALL ever`: the read of that number fails, or each from it on.
 //! - `writer free BYTES`: the writer takes so many bytes and then fails; `messages free BYTES`: so does that of messages.
 //! - `writer fails CALL once`, `writer fails CALL ever`: the write or flush of that number fails, or each from it on.

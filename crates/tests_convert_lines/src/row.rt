@@ -10,7 +10,7 @@ use std::io;
 pub enum Failing {
     /// Never.
     Never,
-    /// At the call behind those that move all bytes.
+    /// At the call after those that move all bytes.
     AfterHead,
     /// At the call of that number.
     Once(u64),

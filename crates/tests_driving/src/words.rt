@@ -30,7 +30,7 @@ fn words_of(alloc: Global, effects: &str) -> Option<Vec<String>> {
     Some(words)
 }
 
-/// The plan of a command line behind the head of an AU of 8000 frames a second, one channel and samples of 32 bits. None where
+/// The plan of a command line after the head of an AU of 8000 frames a second, one channel and samples of 32 bits. None where
 /// the words are refused, or memory.
 fn planned(alloc: Global, words: &[String]) -> Option<Plan> {
     let Ok(line) = parse_line(alloc, words) else {
@@ -57,7 +57,7 @@ fn of_one_channel(plan: Plan) -> Option<Plan>
     }
 }
 
-/// The plan of these effects behind that head. None where the words are refused, or memory for the plan.
+/// The plan of these effects after that head. None where the words are refused, or memory for the plan.
 pub fn found_plan(alloc: Global, effects: &str) -> Option<Plan>
     ensures mono { IfSome result (λ p. (planning p).head.channels ≡ 1) }
 {

@@ -48,7 +48,7 @@ fn thawed(alloc: Global, snapshot: &Snapshot) -> Result<Chain, &'static str>
     }
 }
 
-/// What the chain of a snapshot does where it is told the end.
+/// What the chain of a snapshot does where it is given the end.
 fn thawed_to_the_end(alloc: Global, snapshot: &Snapshot) -> Result<Driver, &'static str> {
     let chain = thawed(alloc, snapshot)?;
     let driven = Driven::new(alloc);
@@ -84,7 +84,7 @@ fn have_samples(frames: &[WideFrame], samples: &[i64]) -> bool {
     true
 }
 
-/// Fails with a text where the chain of a snapshot does not give these samples where it is told the end.
+/// Fails with a text where the chain of a snapshot does not give these samples where it is given the end.
 fn ends_with(
     alloc: Global,
     snapshot: &Snapshot,

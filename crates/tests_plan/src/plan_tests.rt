@@ -1,4 +1,4 @@
-//! The worked rows of fx_plan: in each table a line has words, and behind the arrow what is answered.
+//! The worked rows of fx_plan: in each table a line has words, and after the arrow what is answered.
 
 ghost use Rattle.std.specs.Prelude.{◌<◌, ◌≤◌};
 
@@ -175,7 +175,7 @@ fn answered(alloc: Global, head: &Head, text: &str) -> Result<String, AllocError
     }
 }
 
-/// Fails at the first row of a table that is answered otherwise, its words being put behind `front`.
+/// Fails at the first row of a table that is answered otherwise, its words being put after `front`.
 fn check_rows(alloc: Global, head: &Head, front: &str, table: &str) -> Result<(), Fail> {
     for row in table.lines() {
         let Some((words, answer)) = row.split_once(" -> ") else {
@@ -190,7 +190,7 @@ fn check_rows(alloc: Global, head: &Head, front: &str, table: &str) -> Result<()
     Ok(())
 }
 
-/// The same of words behind the output of a sound.
+/// The same of words after the output of a sound.
 fn check_effects(alloc: Global, head: &Head, table: &str) -> Result<(), Fail> {
     check_rows(alloc, head, "- -t au - ", table)
 }

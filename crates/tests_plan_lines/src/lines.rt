@@ -14,14 +14,14 @@ pub struct File {
     pub bytes: Vec<u8>,
 }
 
-/// What the lines so far have said for those behind them.
+/// What the lines so far have said for those after them.
 #[derive(Drop)]
 pub struct Known {
     pub head: Option<Head>,
     pub files: Vec<File>,
 }
 
-/// The first byte that a text stands for, and the text behind it; None where there is none, or digits are missing.
+/// The first byte that a text stands for, and the text after it; None where there is none, or digits are missing.
 fn first_byte(text: &[u8]) -> Option<(u8, &[u8])>
     ensures { IfSome result (λ x. length x.1.now < length text.now) }
 {

@@ -3,9 +3,9 @@
 //! Words on a line stand apart by tabs; in a word, `%` and two hexadecimal digits stand for a byte. The first word
 //! says what the line is:
 //!
-//! - `head KIND RATE CHANNELS BITS`, as `head au 8000 1 32`: what the head of the input says, for the lines behind
+//! - `head KIND RATE CHANNELS BITS`, as `head au 8000 1 32`: what the head of the input says, for the lines after
 //!   it. Coefficient files of the lines before it are forgotten.
-//! - `file NAME BYTES`: a coefficient file, for the lines behind it.
+//! - `file NAME BYTES`: a coefficient file, for the lines after it.
 //! - `plan WORD ..`: a command line, without the program's name.
 //!
 //! A plan is answered by `from IN to OUT: KIND CODING, rate R, channels C, hold H, work W`, where H are the frames that

@@ -70,7 +70,7 @@ fn through<S: Stage>(
     Ok(early)
 }
 
-/// Adds the samples of a word: one, or as many as are said behind a star.
+/// Adds the samples of a word: one, or as many as are said after a star.
 fn add_samples(word: &str, samples: &mut Vec<i32>) -> Result<(), &'static str> {
     let (number, times) = word.split_once('*').unwrap_or((word, "1"));
     let Ok(sample) = number.parse::<i32>() else {

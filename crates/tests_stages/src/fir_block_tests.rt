@@ -154,7 +154,7 @@ fn thaw(
     }
 }
 
-/// Tells a `fir` the end, and adds the samples that come behind it.
+/// Gives a `fir` the end, and adds the samples that come after it.
 fn end(fir: &mut Fir, given: &mut Vec<i32>) -> Result<(), &'static str> {
     if !fir.is_dry() || fir.is_ended() {
         return Err("not ready for the end");
@@ -163,7 +163,7 @@ fn end(fir: &mut Fir, given: &mut Vec<i32>) -> Result<(), &'static str> {
     drain(fir, given)
 }
 
-/// Feeds blocks of up to 3,000 frames, freezes and thaws behind each, and then tells the end.
+/// Feeds blocks of up to 3,000 frames, freezes and thaws after each, and then gives the end.
 fn feed_blocks(
     alloc: Global,
     fir: &mut Fir,
@@ -189,7 +189,7 @@ fn feed_blocks(
     end(fir, given)
 }
 
-/// Adds what a `fir` gives that is fed a sound in blocks, frozen and thawed behind each, and then told the end.
+/// Adds what a `fir` gives that is fed a sound in blocks, frozen and thawed after each, and then given the end.
 fn feed(
     alloc: Global,
     coefficients: &[Gain],

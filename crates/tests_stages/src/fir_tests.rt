@@ -49,7 +49,7 @@ fn growth_fir(rt: HostRuntime) -> Result<(), &'static str> {
     say(&rt, fir_thawed(rt.alloc()))
 }
 
-/// A frame in hand after the end.
+/// A pending frame after the end.
 #[test]
 fn fir_refused(rt: HostRuntime) -> Result<(), &'static str> {
     let unity = gain("1")?;

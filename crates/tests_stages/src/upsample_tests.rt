@@ -12,7 +12,7 @@ fn mono(sample: i32) -> Frame
     Frame::one(sample)
 }
 
-/// One frame, and two of silence behind it.
+/// One frame, and two of silence after it.
 #[test]
 fn upsample_by_three() -> Result<(), &'static str> {
     let mut stage = Upsample::new(1, 3);
@@ -66,7 +66,7 @@ fn pass_on(
     Ok(())
 }
 
-/// Of the six frames behind `upsample 3`, each second one from the first on.
+/// Of the six frames after `upsample 3`, each second one from the first on.
 #[test]
 fn upsample_then_downsample(rt: HostRuntime) -> Result<(), &'static str> {
     let mut first = Upsample::new(1, 3);
@@ -80,7 +80,7 @@ fn upsample_then_downsample(rt: HostRuntime) -> Result<(), &'static str> {
     Ok(())
 }
 
-/// More silence than a factor of 3 leaves, and a frame in hand after the end.
+/// More silence than a factor of 3 leaves, and a pending frame after the end.
 #[test]
 fn factors_refused() -> Result<(), &'static str> {
     let silent = Upsample::thaw(1, 3, &[], &[3, 0, 0, 0, 0, 9, 0, 0]);

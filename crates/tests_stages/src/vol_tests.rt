@@ -31,7 +31,7 @@ fn vol_thawed(rt: HostRuntime) -> Result<(), &'static str> {
     comes_back(vol, made, "no vol, or another one")
 }
 
-/// Clips without a frame in hand, and a frame in hand after the end.
+/// Clips without a pending frame, and a pending frame after the end.
 #[test]
 fn vol_refused() -> Result<(), &'static str> {
     let unity = gain("1")?;

@@ -106,7 +106,7 @@ stages-preserved g c =
           })
     ]
 
--- the frame came out behind the last stage, as wide as the last stage makes it
+-- the frame came out after the last stage, as wide as the last stage makes it
 out : (g : given.Over) (c : goal.After-stages g) → (WentThrough g.S.Stage.acts (take c.args.channels c.args.places.now) (Some (take c.stages.width c.stages.places)) c.args.stages.now c.stages.stages) × (c.stages.width ≡ outputs_of c.args.channels (kinds g.S.Stage.acts c.args.stages.now))
 out g c =
     let acts = g.S.Stage.acts in

@@ -1,4 +1,4 @@
--- The oldest frame is let go.
+-- The oldest frame leaves the line.
 use Rattle.std.proofs.Common.{◌≡◌, ◌≤◌, ◌+◌, ◌-◌, ◌∙◌, ◌++◌, [], ap, sym, arith, length, length-drop, map, option_to_list}
 use Rattle.fx_frame_base.proofs.Flags.{none-of}
 use Rattle.fx_frame_base.specs.Given.{plain}

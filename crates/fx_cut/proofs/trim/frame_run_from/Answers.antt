@@ -1,4 +1,4 @@
--- Up to the next position all frames lie behind the positions that were passed.
+-- Up to the next position all frames lie after the positions that were passed.
 use Rattle.std.proofs.Common.{◌≡◌, ◌<◌, ◌≤◌, ◌+◌, max, arith}
 use Rattle.fx_cut.proofs.TrimFrameRun.{alike, before-next, rest_unchanged-next, no-start, no-more}
 use Rattle.fx_cut.proofs.trim.frame_run_from.Goals as goal

@@ -1,4 +1,4 @@
--- One frame more, with the silence behind it.
+-- One frame more, with the silence after it.
 use Rattle.std.proofs.Common.{◌≡◌, ◌≤◌, ◌*◌, ◌+◌, ◌-◌, ◌++◌, ◌∙◌, ap, sym, length, take, drop, replicate, arith, add-one, pos}
 use Rattle.std.proofs.lemmas.List.{length-append, length-drop, length-replicate, length-take-le}
 use Rattle.std.proofs.Math.Nat.{suc-mul, mul-le-mul_right, mul_assoc}

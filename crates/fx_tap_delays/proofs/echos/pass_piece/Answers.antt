@@ -70,7 +70,7 @@ pub push_frames-requires-clause-fits : goal.push_frames-requires-clause-fits
 push_frames-requires-clause-fits g c =
     flat-fits c.add_samples.new.out (λ k l. omega (arith, c.add_samples.ensures.bound k (omega (arith, l, c.add_samples.auto.out)), c.lines.invariant.before k, c.lines-test.true, c.requires.bound))
 
--- what the line let go, and its samples are small
+-- what fell out of the line, and its samples are small
 line_output : (g : given.Over) (c : After-before_into g) → length c.lines.before ≡ c.args.count * c.args.channels →
     let l = line_at c.args.lines.now c.lines.place in
     (pieces c.args.channels c.args.count c.before_into.new.out ≡ take c.args.count (latest_frames (pos 0) l.capacity l)) × ((k : ℕ) → unsigned_abs (slice_index_or c.before_into.new.out k (pos 0)) ≤ (c.lines.place + 1) * 2 ^ 31)

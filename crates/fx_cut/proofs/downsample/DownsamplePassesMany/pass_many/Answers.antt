@@ -1,4 +1,4 @@
--- Frames that are left out, and groups behind them.
+-- Frames that are left out, and groups after them.
 use Rattle.std.proofs.Common.{rules, ◌≡◌, ◌≤◌, ◌+◌, ◌-◌, ◌*◌, ◌∙◌, [], length, ap, arith, refl}
 use Rattle.fx_frame_base.proofs.Flags.{none-of}
 use Rattle.std.proofs.lemmas.List.{length-drop}
@@ -16,7 +16,7 @@ use Rattle.fx_cut.proofs.downsample.DownsamplePassesMany.pass_many.Goals.{After-
 pub returns-then-is_pending-clause-fed : goal.returns-then-is_pending-clause-fed
 returns-then-is_pending-clause-fed c = nothing
 
--- no frame is in hand
+-- no frame is pending
 ready : (c : After-min-left_out) → Ready (view c.self.inside)
 ready c = record { is = c.self.invariant; empty = none-of c.self.inside.core.pending (search rules); running = search rules }
 
@@ -34,7 +34,7 @@ invariant_of-self c = rw c.take_many.ensures (lead c).1.is
 pub returns-then-self-ne0-clause-fed : goal.returns-then-self-ne0-clause-fed
 returns-then-self-ne0-clause-fed c = rw (← c.self.view_is, c.take_many.ensures) (lead c).0
 
--- the groups behind them are there
+-- the groups after them are there
 free : (c : After-min-groups) → (c.min-left_out.result + c.min-groups.result * c.self.inside.factor) * c.self.inside.channels ≤ length c.args.input.now
 free c = groups-free (length c.args.input.now) c.self.inside.channels c.self.inside.factor c.min-left_out.result c.min-groups.result (omega (arith, c.min-left_out.ensures)) (omega (arith, c.min-groups.ensures))
 

@@ -6,7 +6,7 @@ use Rattle.fx_cut.proofs.FadeWeights.{faded_along}
 use Rattle.fx_frame_base.specs.Given.{plain}
 use Rattle.fx_cut.proofs.fade.PreparedFadeSelection.select_many.Given as goal
 
--- so many frames are weighed, and those behind them as they came
+-- so many frames are weighed, and those after them as they came
 abbrev pub invariant-frames : goal.invariant-frames
 invariant-frames l = record {
   at_is : l.at ≡ l.turn * l.channels;

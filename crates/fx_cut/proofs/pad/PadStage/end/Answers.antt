@@ -1,4 +1,4 @@
--- The end came: the oldest frame of the line is taken out, behind its silence.
+-- The end came: the oldest frame of the line is taken out, after its silence.
 use Rattle.std.proofs.Common.{refl, true, ◌≡◌}
 use Rattle.fx_cut.proofs.PadSteps.{IsPad-drawn, Ended-pad, left-dry}
 use Rattle.fx_cut.proofs.pad.PadStage.end.Goals as goal

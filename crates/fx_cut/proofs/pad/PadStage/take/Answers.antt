@@ -1,4 +1,4 @@
--- A frame comes: it stays in the line, or the oldest falls out, behind its silence.
+-- A frame comes: it stays in the line, or the oldest falls out, after its silence.
 use Rattle.fx_cut.proofs.PadSteps.{Took-inside, Took-fallen, IsPad-inside, IsPad-fallen}
 use Rattle.fx_cut.proofs.Fallen.{oldest-fits}
 use Rattle.fx_cut.proofs.pad.PadStage.take.Goals as goal

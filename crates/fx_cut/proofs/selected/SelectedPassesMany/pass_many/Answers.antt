@@ -1,4 +1,4 @@
--- The frames that fall out up to where a stretch ends are given, or left out, all of them.
+-- The frames that fall out up to where a run ends are given, or left out, all of them.
 use Rattle.std.proofs.Common.{rules, ℕ, ◌≡◌, ◌≤◌, ◌+◌, ◌*◌, ◌-◌, ◌/◌, ◌∙◌, ◌++◌, drop, length, take, sym, arith, w32}
 use Rattle.fx_frame_base.proofs.Flags.{none-of}
 use Rattle.std.proofs.lemmas.Grind.{common_steps}

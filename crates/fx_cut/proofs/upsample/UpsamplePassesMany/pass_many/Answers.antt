@@ -1,4 +1,4 @@
--- Each frame is passed with the silence behind it.
+-- Each frame is passed with the silence after it.
 use Rattle.std.proofs.Common.{rules, ◌≤◌, ◌+◌, ◌*◌, ◌/◌, ◌^◌, length, arith}
 use Rattle.fx_frame_base.proofs.Flags.{none-of}
 use Rattle.std.proofs.Math.Nat.{mul_assoc}

@@ -7,7 +7,7 @@ use Rattle.fx_tap_delays.proofs.tapped.TappedFeeds.pass_frames.Given as given
 use Rattle.fx_tap_delays.proofs.tapped.TappedFeeds.pass_frames.Goals.{After-tap_groups-clips}
 use Rattle.fx_tap_delays.proofs.tapped.TappedFeeds.pass_frames.Goals as goal
 
--- the stage has no frame in hand, has not ended, gave what it took, and may take as many more
+-- the stage has no pending frame, has not ended, gave what it took, and may take as many more
 ready : (g : given.Over) (c : After-tap_groups-clips g) →
     let s = c.self.inside in
     (s.core.pending ≡ None) × (s.core.ended ≡ false) × (s.core.taken + c.args.count ≤ 2 ^ 56) × (s.core.given ≡ s.core.taken)

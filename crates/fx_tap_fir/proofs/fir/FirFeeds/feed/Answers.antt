@@ -10,7 +10,7 @@ use Rattle.fx_tap_fir.proofs.FirBlocks.{IsFir-block, block-fed}
 use Rattle.fx_frame.proofs.WholeFrames.{both-have, no-more}
 use Rattle.fx_tap_fir.proofs.fir.FirFeeds.feed.Goals as goal
 
--- while the line is full, no frame is pending and the sound goes on, as many frames are not given yet as lie behind a centre
+-- while the line is full, no frame is pending and the sound goes on, as many frames are not given yet as lie after a centre
 even : (s : FirState) → IsFir s → s.core.pending ≡ None → s.core.ended ≡ false → length s.line.items ≡ s.line.capacity → s.core.given + centre (length (reverse s.backwards)) ≡ s.core.taken
 even s is none over full =
     let no_tail : s.tail ≡ 0 = is.not_ended over in
