@@ -1,6 +1,6 @@
 -- Frames that go through stages in sequence one after another, with no checks between two of them (this project's profile).
 use Rattle.std.specs.Prelude.{ℕ, ℤ, ◌+◌, ◌*◌, ◌<◌, ◌≤◌, ◌≡◌, true, false, Option, Some, None, List, [], ◌∷◌, drop, length, option_to_list, take, if◌then◌else◌}
-use Rattle.fx_frame_base.specs.Frame.{Samples}
+use Rattle.fx_frame_base.specs.Frame.{IsChannelCount, Samples}
 use Rattle.fx_frame_base.specs.Holds.{kinds}
 use Rattle.fx_frame_base.specs.Lists.{pieces}
 use Rattle.fx_frame_base.specs.Pipeline.{outputs_of}
@@ -67,7 +67,7 @@ module _ {S R : Type 0} (acts : Acts S R) where
   -- give one for each, and the output has space for as many. A frame has 1 to 16 channels. Each stage has given what is due, holds
   -- the frames of its line alone, and has not had enough before the last frame.
   pub record MayRunOneToOne (channels count : ℕ) (samples free : List ℤ) (stages : List S) : Type 0 where
-    pub frame : (1 ≤ channels) × (channels ≤ 16)
+    pub frame : IsChannelCount channels
     pub keep : AllKeep channels (kinds acts stages)
     pub input : count * channels ≤ length samples
     pub output : count * channels ≤ length free
@@ -81,7 +81,7 @@ module _ {S R : Type 0} (acts : Acts S R) where
   -- space for as many. A frame has 1 to 16 channels, and the widths are those of the stages. Each stage has given what is due,
   -- holds the frames of its line alone, and has not had enough before the last frame.
   pub record MayRunPipeline (widths : Widths) (count : ℕ) (samples free : List ℤ) (stages : List S) : Type 0 where
-    pub frame : (1 ≤ widths.inputs) × (widths.inputs ≤ 16)
+    pub frame : IsChannelCount widths.inputs
     pub outputs : widths.outputs ≡ outputs_of widths.inputs (kinds acts stages)
     pub keep : widths.keeps ≡ true → AllKeep widths.inputs (kinds acts stages)
     pub input : count * widths.inputs ≤ length samples

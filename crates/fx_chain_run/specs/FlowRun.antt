@@ -1,5 +1,6 @@
 -- What a run of a flow begins with, and what it has done (this project's profile).
 use Rattle.std.specs.Prelude.{◌≡◌, ◌≢◌, ℕ, ◌+◌, ◌*◌, ◌≤◌, true, IsTrue, MatchResult, Result, Some}
+use Rattle.fx_frame_base.specs.Frame.{IsChannelCount}
 use Rattle.fx_frame_base.specs.Holds.{kinds, recipes}
 use Rattle.fx_frame_base.specs.Io.{ByteReader, ByteWriter, saturated}
 use Rattle.fx_frame_base.specs.Stage.{Acts}
@@ -24,7 +25,7 @@ pub record HasHead (target : Target) : Type 0 where
   -- its rate is positive
   pub rated : 1 ≤ target.rate
   -- it has 1 to 16 channels
-  pub channels : (1 ≤ target.channels) × (target.channels ≤ 16)
+  pub channels : IsChannelCount target.channels
 
 -- The counts that a run reports are those of its flow, which makes at most `bound n` hand-overs for n frames.
 pub record CountsFlow {S C : Type 0} (acts : Acts S C) (bound : ℕ → ℕ) (f f' : Parts S) (r : Report) : Type 0 where

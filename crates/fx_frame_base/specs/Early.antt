@@ -1,7 +1,7 @@
 -- Frames that go through a stage and those after it, where they leave the stage before as many others come (this project's profile).
 use Rattle.std.specs.Prelude.{ℕ, ℤ, ◌+◌, ◌*◌, ◌≤◌, ◌≡◌, true, false, List, [], ◌∷◌, drop, length}
 use Rattle.fx_frame_base.specs.Feed.{IsAhead, IsOneToOne}
-use Rattle.fx_frame_base.specs.Frame.{Samples}
+use Rattle.fx_frame_base.specs.Frame.{IsChannelCount, Samples}
 use Rattle.fx_frame_base.specs.Holds.{kinds}
 use Rattle.fx_frame_base.specs.Lists.{pieces}
 use Rattle.fx_frame_base.specs.Pipeline.{AllAhead, AllKeep, AllOneToOne, AreReady, EachThrough}
@@ -32,7 +32,7 @@ module _ {S R T Q : Type 0} (acts : Acts S R) (after : Acts T Q) where
     pub not_ended : (acts.counts s).ended ≡ false
     pub one_to_one : IsOneToOne acts count s
     pub ahead : IsAhead acts count s
-    pub frame : (1 ≤ (kind acts s).inputs) × ((kind acts s).inputs ≤ 16)
+    pub frame : IsChannelCount (kind acts s).inputs
     pub same_channels : (kind acts s).outputs ≡ (kind acts s).inputs
     pub below_limit : (acts.counts s).taken + count ≤ (kind acts s).limit
     pub lined : count ≤ early s

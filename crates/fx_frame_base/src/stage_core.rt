@@ -88,7 +88,7 @@ impl StageCore {
     pub fn taken(&self) -> u64
         ensures { result ≡ self.now.taken }
     {
-        self.taken
+        self.counter_values().taken
     }
 
     /// Whether it was given the end.

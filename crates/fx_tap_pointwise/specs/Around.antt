@@ -7,7 +7,7 @@ use Rattle.fx_frame_base.specs.Pipeline.{EachThrough}
 use Rattle.fx_frame_base.specs.Stage.{Acts, Given}
 use Rattle.fx_frame.specs.Made.{clips_in, made_of}
 use Rattle.fx_tap_pointwise.specs.Mapped.{MapState, map_acts}
-use Rattle.fx_tap_pointwise.specs.declared.around.RowClips.{RowClips}
+use Rattle.fx_tap_pointwise.specs.declared.around.ClipsByStage.{ClipsByStage}
 use Rattle.fx_tap_pointwise.specs.declared.mapped.PairWidths.{PairWidths}
 
 -- three mappings in sequence: the first `count` frames of the output are those made of the first `count` of the input
@@ -25,7 +25,7 @@ pub record IsMadeByThree (first_map middle_map last_map : Samples → Given) (in
   pub last_bound : last ≤ 16 * count
 
 -- the same, of frames of these channels, where these are the counts
-abbrev pub GroupIsMade : (Samples → Given) → (Samples → Given) → (Samples → Given) → PairWidths → ℕ → List ℤ → List ℤ → RowClips → Type 0
+abbrev pub GroupIsMade : (Samples → Given) → (Samples → Given) → (Samples → Given) → PairWidths → ℕ → List ℤ → List ℤ → ClipsByStage → Type 0
 GroupIsMade first_map middle_map last_map widths count input output clips = IsMadeByThree first_map middle_map last_map widths.inputs widths.outputs count input output clips.first clips.middle clips.last
 
 -- three stages in sequence: these frames went into the first, and those came out of the last

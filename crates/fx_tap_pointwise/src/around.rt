@@ -3,6 +3,7 @@
 ghost use Rattle.std.specs.Prelude.{◌≡◌, ◌*◌, ◌^◌, ◌≤◌, FitsSigned, drop, length, take};
 ghost use Rattle.std.specs.Int.{w32};
 ghost use Rattle.std.specs.List.{All};
+ghost use Rattle.fx_frame_base.specs.Frame.{IsChannelCount};
 ghost use Rattle.fx_tap_pointwise.specs.Around.{GroupIsMade, PassedAround};
 ghost use Rattle.fx_tap_pointwise.specs.Mapped.{ComesAfter, KeepsChannels, MayMapFrames};
 
@@ -18,7 +19,7 @@ const SAMPLES_AT_ONCE: usize = FRAMES_AT_ONCE * MAX_CHANNELS;
 
 /// How many samples each of three effects clipped.
 #[derive(Clone, Copy)]
-struct RowClips {
+struct ClipsByStage {
     first: u64,
     middle: u64,
     last: u64,
@@ -37,10 +38,10 @@ fn group_by_three<A: MapsMany, B: MapsMany, C: MapsMany>(
     output: &mut [i32],
     before: &mut [i32; SAMPLES_AT_ONCE],
     after: &mut [i32; SAMPLES_AT_ONCE],
-) -> RowClips
+) -> ClipsByStage
     requires inputs { (A.inputs first.now ≡ widths.inputs) × (A.outputs first.now ≡ widths.inputs) × (B.inputs middle.now ≡ widths.inputs) }
     requires outputs { (B.outputs middle.now ≡ widths.outputs) × (C.inputs last.now ≡ widths.outputs) × (C.outputs last.now ≡ widths.outputs) }
-    requires frames { (1 ≤ widths.inputs) × (widths.inputs ≤ 16) × (1 ≤ widths.outputs) × (widths.outputs ≤ 16) }
+    requires frames { IsChannelCount widths.inputs × IsChannelCount widths.outputs }
     requires bound { count ≤ 4 }
     requires input { length input.now ≡ count * widths.inputs }
     requires output { length output.old ≡ count * widths.outputs }
@@ -59,7 +60,7 @@ fn group_by_three<A: MapsMany, B: MapsMany, C: MapsMany>(
     let first_clips = first.map_group(inner, count, input, before);
     let middle_clips = middle.map_group(widths, count, before, after);
     let last_clips = last.map_group(outer, count, after, output);
-    RowClips {
+    ClipsByStage {
         first: first_clips,
         middle: middle_clips,
         last: last_clips,
@@ -77,7 +78,7 @@ fn groups_by_three<A: MapsMany, B: MapsMany, C: MapsMany>(
     count: usize,
     input: &[i32],
     output: &mut [i32],
-) -> RowClips
+) -> ClipsByStage
     requires inputs { (A.inputs first.now ≡ widths.inputs) × (A.outputs first.now ≡ widths.inputs) × (B.inputs middle.now ≡ widths.inputs) }
     requires outputs { (B.outputs middle.now ≡ widths.outputs) × (C.inputs last.now ≡ widths.outputs) × (C.outputs last.now ≡ widths.outputs) }
     requires frames { (widths.inputs ≤ 16) × (widths.outputs ≤ 16) }
@@ -133,7 +134,7 @@ fn groups_by_three<A: MapsMany, B: MapsMany, C: MapsMany>(
         &mut before,
         &mut after,
     );
-    RowClips {
+    ClipsByStage {
         first: first_clips + clips.first,
         middle: middle_clips + clips.middle,
         last: last_clips + clips.last,
@@ -151,7 +152,7 @@ fn mapped_by_three<A: MapsMany, B: MapsMany, C: MapsMany>(
     count: usize,
     input: &[i32],
     output: &mut [i32],
-) -> RowClips
+) -> ClipsByStage
     requires inputs { (A.inputs first.now ≡ widths.inputs) × (A.outputs first.now ≡ widths.inputs) × (B.inputs middle.now ≡ widths.inputs) }
     requires outputs { (B.outputs middle.now ≡ widths.outputs) × (C.inputs last.now ≡ widths.outputs) × (C.outputs last.now ≡ widths.outputs) }
     requires frames { (widths.inputs ≤ 16) × (widths.outputs ≤ 16) }

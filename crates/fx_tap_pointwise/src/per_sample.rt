@@ -152,14 +152,14 @@ pub struct PerSample<S: Sampling + Drop> {
 }
 
 impl<S: Sampling + Drop> Model for PerSample<S> {
-    ghost use Rattle.std.specs.Prelude.{◌≤◌};
+    ghost use Rattle.fx_frame_base.specs.Frame.{IsChannelCount};
     ghost use Rattle.fx_tap_pointwise.specs.PerSample.{SampleArguments};
 
     ghost Value = { SampleArguments S };
 
     ghost view = { λ s. record { channels = s.channels; sampling = s.sampling } };
 
-    ghost invariant = { λ s. (1 ≤ s.channels) × (s.channels ≤ 16) };
+    ghost invariant = { λ s. IsChannelCount s.channels };
 }
 
 impl<S: Sampling + Drop> PerSample<S> {

@@ -7,10 +7,10 @@ use Rattle.fx_frame.proofs.SamplePieces.{pieces-sides}
 use Rattle.fx_tap_pointwise.proofs.around.group_by_three.Goals as goal
 
 pub slice_bounds-before-end : goal.slice_bounds-before-end
-slice_bounds-before-end g c = search (rules, mul-le c.args.count c.args.widths.inputs 4 16 c.requires.bound c.requires.frames.1)
+slice_bounds-before-end g c = search (rules, mul-le c.args.count c.args.widths.inputs 4 16 c.requires.bound c.requires.frames.0.1)
 
 pub slice_bounds-after-end : goal.slice_bounds-after-end
-slice_bounds-after-end g c = search (rules, mul-le c.args.count c.args.widths.outputs 4 16 c.requires.bound c.requires.frames.3)
+slice_bounds-after-end g c = search (rules, mul-le c.args.count c.args.widths.outputs 4 16 c.requires.bound c.requires.frames.1.1)
 
 pub returns : goal.returns
 returns g c =
