@@ -1,5 +1,5 @@
 -- The frames that `downsample` gives, along the list.
-use Rattle.std.proofs.Common.{ℕ, suc, ◌+◌, ◌-◌, ◌*◌, ◌<◌, ◌≤◌, ◌≡◌, ◌^◌, List, [], ◌∷◌, length, drop, refl, sym, ap, ◌∙◌, arith, false, true, inl, inr, ◌⊎◌, length-drop, Option, Some, None, option_to_list, slice_index_or, is_none}
+use Rattle.std.proofs.Common.{ℕ, suc, ◌+◌, ◌-◌, ◌*◌, ◌<◌, ◌≤◌, ◌≡◌, ◌^◌, List, [], ◌∷◌, length, drop, refl, sym, ap, ◌∙◌, arith, false, true, inl, inr, ◌⊎◌, length-drop, Some, option_to_list, slice_index_or, is_none}
 use Rattle.std.specs.Int.{div_ceil}
 use Rattle.std.proofs.lemmas.Grind.{div_ceil_times}
 use Rattle.fx_frame_base.specs.Frame.{Samples}
@@ -10,6 +10,7 @@ use Rattle.fx_frame_base.specs.PendingFrame.{IsPending}
 use Rattle.fx_cut.specs.Ceil.{by_products}
 use Rattle.fx_frame_base.specs.StageCore.{after_offering, pending_frames}
 use Rattle.fx_frame_base.proofs.Cores.{IsCore-offered}
+use Rattle.fx_frame_base.proofs.Flags.{none-is}
 use Rattle.fx_cut.proofs.CoreCounts.{IsCore-took}
 use Rattle.fx_frame_base.specs.Lists.{tabulate}
 use Rattle.fx_frame_base.specs.Given.{plain}
@@ -55,11 +56,6 @@ downsampled-cons f x z some =
     let e : (1 + k) * f ≡ suc ((f - 1) + (0 + k) * f) = omega arith in
     ap (λ i. plain (slice_index_or (x ∷ z) i [])) e ∙ ap plain (sym (get_or-drop (f - 1) z ((0 + k) * f) []))) in
     ap (tabulate F 0) count ∙ ap (λ g. g ∷ tabulate F 1 q) here ∙ ap (λ l. plain x ∷ l) more
-
--- where it is dry no frame is pending
-none-is : (pending : Option Samples) → is_none pending ≡ true → pending ≡ None
-none-is None h = refl
-none-is (Some x) h = absurd (cc)
 
 -- a frame that is kept
 abbrev pub kept : DownsampleState → Samples → DownsampleState

@@ -6,7 +6,7 @@ use Rattle.std.proofs.lemmas.List.Elements.{All-head, All-tail}
 use Rattle.std.proofs.lemmas.List.{map-append}
 use Rattle.fx_frame_base.specs.declared.stage_core.StageCore.{StageCore}
 use Rattle.fx_frame_base.specs.declared.feed.Passing.TheVariants.{Through}
-use Rattle.fx_frame_base.specs.Feed.{Fed, GaveNext, PassedOn, TookNext, nothing, taken, given}
+use Rattle.fx_frame_base.specs.Feed.{Fed, GaveNext, PassedOn, TookNext}
 use Rattle.fx_frame_base.specs.Frame.{Samples, silence}
 use Rattle.fx_frame_line.specs.Line.{Frames, IsLine}
 use Rattle.fx_frame_base.specs.Lists.{pieces}
@@ -15,7 +15,7 @@ use Rattle.fx_frame_base.specs.Stage.{Acts, Given, IsDry}
 use Rattle.fx_frame_base.specs.Holds.{total}
 use Rattle.fx_frame_base.specs.StageCore.{after_offering, after_passing}
 use Rattle.fx_frame_base.proofs.Cores.{IsCore-passed, is-passed-core, passed_core}
-use Rattle.fx_frame_base.proofs.FedLaws.{Fed-then, total-append}
+use Rattle.fx_frame_base.proofs.FedLaws.{Fed-through, total-append}
 use Rattle.fx_frame_line.proofs.RingLaws.{keep-twice}
 use Rattle.fx_frame_base.proofs.Pieces.{length-pieces}
 use Rattle.fx_frame.specs.Tapped.{Taps, TapState, IsNear, IsTapState, given_after, clips_after, frames_after, last_of, tap_acts}
@@ -170,12 +170,6 @@ module _ {M : Type 0} (taps : Taps M) (near : IsNear taps) where
         } in
         (mid, took, gave, refl)
 
-    one-fed : (line : Frames ℤ) (count clips : ℕ) (x : Samples) → line.capacity ≡ taps.reach m → length line.items ≤ line.capacity → length (made_after line x).samples ≡ taps.channels m
-        → Fed acts (ready line count clips) (x ∷ []) ((made_after line x).samples ∷ []) (ready (through line (x ∷ [])) (count + 1) (clips + (made_after line x).clips))
-    one-fed line count clips x size within sides =
-        let passed = one-passed line count clips x size within sides in
-        given (x ∷ []) [] (made_after line x).samples passed.0 (ready (through line (x ∷ [])) (count + 1) (clips + (made_after line x).clips)) (taken [] [] x (ready line count clips) passed.0 nothing passed.1) passed.2
-
     -- a stage with no pending frame that has not ended is ready
     ready-is : (s : TapState M) → s.arguments ≡ m → IsTapState taps s → s.core.pending ≡ None → s.core.ended ≡ false → s ≡ ready s.line s.core.taken s.core.clips
     ready-is s e is none running =
@@ -203,30 +197,6 @@ module _ {M : Type 0} (taps : Taps M) (near : IsNear taps) where
         let From : TapState M → Type 0 = λ u. PassedOn acts Through u next x (made_after s.line x).samples in
         let To : TapState M → Type 0 = λ u. PassedOn acts Through s u x (made_after s.line x).samples in
         rw made (subst To (sym last) (subst From (sym start) passed))
-
-    -- frame by frame
-    pub taps-fed : (xs : List Samples) (line : Frames ℤ) (count clips : ℕ) → line.capacity ≡ taps.reach m → length line.items ≤ line.capacity → All (λ (y : Samples). length y ≡ taps.channels m) (frames_after taps m line.items xs)
-        → Fed acts (ready line count clips) xs (frames_after taps m line.items xs) (ready (through line xs) (count + length xs) (clips + clips_after taps m line.items xs))
-    taps-fed [] line count clips size within sides = rw (add-zero, add-zero, last-whole line.capacity line.items within) nothing
-    taps-fed (x ∷ xs) line count clips size within sides =
-        let next : Frames ℤ = through line (x ∷ []) in
-        let made : Given = made_after line x in
-        let steps : given_after taps m line.items (x ∷ xs) ≡ made ∷ given_after taps m next.items xs = rest_unchanged-step taps near m line.items xs x line.capacity within (omega arith) in
-        let frames : frames_after taps m line.items (x ∷ xs) ≡ made.samples ∷ frames_after taps m next.items xs = ap (map (λ (g : Given). g.samples)) steps in
-        let clipped : clips_after taps m line.items (x ∷ xs) ≡ made.clips + clips_after taps m next.items xs = ap (total (λ (g : Given). g.clips)) steps in
-        let each : All (λ (y : Samples). length y ≡ taps.channels m) (made.samples ∷ frames_after taps m next.items xs) = subst (λ (l : List Samples). All (λ (y : Samples). length y ≡ taps.channels m) l) frames sides in
-        let free : length next.items ≤ next.capacity = let n = length-last line.capacity (line.items ++ x ∷ []) in omega arith in
-        let one : Fed acts (ready line count clips) (x ∷ []) (made.samples ∷ []) (ready next (count + 1) (clips + made.clips)) =
-        one-fed line count clips x size within (All-head (λ (y : Samples). length y ≡ taps.channels m) made.samples (frames_after taps m next.items xs) each) in
-        let more = taps-fed xs next (count + 1) (clips + made.clips) size free (All-tail (λ (y : Samples). length y ≡ taps.channels m) made.samples (frames_after taps m next.items xs) each) in
-        let all : Fed acts (ready line count clips) (x ∷ xs) (made.samples ∷ frames_after taps m next.items xs) (ready (through next xs) (count + 1 + length xs) (clips + made.clips + clips_after taps m next.items xs)) = Fed-then acts _ _ _ _ _ _ _ one more in
-        let places : count + 1 + length xs ≡ count + length (x ∷ xs) = omega arith in
-        let sums : clips + made.clips + clips_after taps m next.items xs ≡ clips + clips_after taps m line.items (x ∷ xs) = omega (arith, clipped) in
-        let whole : Fed acts (ready line count clips) (x ∷ xs) (made.samples ∷ frames_after taps m next.items xs) (ready (through line (x ∷ xs)) (count + length (x ∷ xs)) (clips + clips_after taps m line.items (x ∷ xs))) =
-        subst (λ (l : List Samples). Fed acts (ready line count clips) (x ∷ xs) (made.samples ∷ frames_after taps m next.items xs) (ready (record { items = l; capacity = line.capacity; channels = line.channels }) (count + length (x ∷ xs)) (clips + clips_after taps m line.items (x ∷ xs)))) (last-first line.capacity line.items xs x)
-        (subst (λ (n : ℕ). Fed acts (ready line count clips) (x ∷ xs) (made.samples ∷ frames_after taps m next.items xs) (ready (through next xs) (count + length (x ∷ xs)) n)) sums
-        (subst (λ (n : ℕ). Fed acts (ready line count clips) (x ∷ xs) (made.samples ∷ frames_after taps m next.items xs) (ready (through next xs) n (clips + made.clips + clips_after taps m next.items xs))) places all)) in
-        subst (λ (l : List Samples). Fed acts (ready line count clips) (x ∷ xs) l (ready (through line (x ∷ xs)) (count + length (x ∷ xs)) (clips + clips_after taps m line.items (x ∷ xs)))) (sym frames) whole
 
     ready-dry : (line : Frames ℤ) (count clips : ℕ) → IsDry acts (ready line count clips)
     ready-dry line count clips = record { due = λ e. refl; over = λ e. absurd (cc (e)) }
@@ -259,39 +229,24 @@ module _ {M : Type 0} (taps : Taps M) (near : IsNear taps) where
         subst (λ (l : List Samples). EachThrough acts (x ∷ xs) l (ready line count clips) end) (sym frames) whole
 
     -- a block of frames: the counters are added to once
-    pub block-fed : (s : TapState M) (line : Frames ℤ) (n clips : ℕ) (input output : List ℤ) → s.arguments ≡ m → IsTapState taps s → s.core.pending ≡ None → s.core.ended ≡ false
-        → n * taps.channels m ≤ length output
-        → pieces (taps.channels m) n output ≡ frames_after taps m s.line.items (pieces (taps.channels m) n input) → clips ≡ clips_after taps m s.line.items (pieces (taps.channels m) n input)
-        → line.items ≡ last_of s.line.capacity (s.line.items ++ pieces (taps.channels m) n input) → line.capacity ≡ s.line.capacity → line.channels ≡ s.line.channels
-        → Fed acts s (pieces (taps.channels m) n input) (pieces (taps.channels m) n output) (record s { core = after_passing n clips s.core; line = line })
-    block-fed s line n clips input output e is none running long made counted items capacity channels =
-        let xs : List Samples = pieces (taps.channels m) n input in
-        let same : ◌≡◌ {A = Frames ℤ} (record { items = line.items; capacity = line.capacity; channels = line.channels }) (through s.line xs) = rw (items, capacity, channels) refl in
-        let went : line ≡ through s.line xs = same in
-        let sides : All (λ (y : Samples). length y ≡ taps.channels m) (frames_after taps m s.line.items xs) = rw (← made) (pieces-sides (taps.channels m) n output long) in
-        let fed : Fed acts (ready s.line s.core.taken s.core.clips) xs (frames_after taps m s.line.items xs) (ready (through s.line xs) (s.core.taken + length xs) (s.core.clips + clips_after taps m s.line.items xs)) = taps-fed xs s.line s.core.taken s.core.clips (is.capacity ∙ ap taps.reach e) is.line.within sides in
-        let many : length xs ≡ n = length-pieces (taps.channels m) n input in
-        let start : s ≡ ready s.line s.core.taken s.core.clips = ready-is s e is none running in
-        let left : record s { core = after_passing n clips s.core; line = line } ≡ ready line (s.core.taken + n) (s.core.clips + clips) = ap (λ (u : TapState M). record u { core = after_passing n clips u.core; line = line }) start in
-        let last : record s { core = after_passing n clips s.core; line = line } ≡ (ready (through s.line xs) (s.core.taken + length xs) (s.core.clips + clips_after taps m s.line.items xs)) =
-        left ∙ ap (λ (j : ℕ). ready line (s.core.taken + j) (s.core.clips + clips)) (sym many) ∙ ap (λ (j : ℕ). ready line (s.core.taken + length xs) (s.core.clips + j)) counted ∙ ap (λ (l : Frames ℤ). ready l (s.core.taken + length xs) (s.core.clips + clips_after taps m s.line.items xs)) went in
-        rw (made, last) (subst (λ (u : TapState M). Fed acts u xs (frames_after taps m s.line.items xs) (ready (through s.line xs) (s.core.taken + length xs) (s.core.clips + clips_after taps m s.line.items xs))) (sym start) fed)
+    module _ (s : TapState M) (line : Frames ℤ) (n clips : ℕ) (input output : List ℤ) (e : s.arguments ≡ m) (is : IsTapState taps s) (none : s.core.pending ≡ None) (running : s.core.ended ≡ false)
+        (long : n * taps.channels m ≤ length output)
+        (made : pieces (taps.channels m) n output ≡ frames_after taps m s.line.items (pieces (taps.channels m) n input)) (counted : clips ≡ clips_after taps m s.line.items (pieces (taps.channels m) n input))
+        (items : line.items ≡ last_of s.line.capacity (s.line.items ++ pieces (taps.channels m) n input)) (capacity : line.capacity ≡ s.line.capacity) (channels : line.channels ≡ s.line.channels) where
+      -- each given before the next is taken
+      pub block-through : EachThrough acts (pieces (taps.channels m) n input) (pieces (taps.channels m) n output) s (record s { core = after_passing n clips s.core; line = line })
+      block-through =
+          let xs : List Samples = pieces (taps.channels m) n input in
+          let same : ◌≡◌ {A = Frames ℤ} (record { items = line.items; capacity = line.capacity; channels = line.channels }) (through s.line xs) = rw (items, capacity, channels) refl in
+          let went : line ≡ through s.line xs = same in
+          let sides : All (λ (y : Samples). length y ≡ taps.channels m) (frames_after taps m s.line.items xs) = rw (← made) (pieces-sides (taps.channels m) n output long) in
+          let fed : EachThrough acts xs (frames_after taps m s.line.items xs) (ready s.line s.core.taken s.core.clips) (ready (through s.line xs) (s.core.taken + length xs) (s.core.clips + clips_after taps m s.line.items xs)) = taps-through xs s.line s.core.taken s.core.clips (is.capacity ∙ ap taps.reach e) is.line.within sides in
+          let many : length xs ≡ n = length-pieces (taps.channels m) n input in
+          let start : s ≡ ready s.line s.core.taken s.core.clips = ready-is s e is none running in
+          let left : record s { core = after_passing n clips s.core; line = line } ≡ ready line (s.core.taken + n) (s.core.clips + clips) = ap (λ (u : TapState M). record u { core = after_passing n clips u.core; line = line }) start in
+          let last : record s { core = after_passing n clips s.core; line = line } ≡ (ready (through s.line xs) (s.core.taken + length xs) (s.core.clips + clips_after taps m s.line.items xs)) =
+          left ∙ ap (λ (j : ℕ). ready line (s.core.taken + j) (s.core.clips + clips)) (sym many) ∙ ap (λ (j : ℕ). ready line (s.core.taken + length xs) (s.core.clips + j)) counted ∙ ap (λ (l : Frames ℤ). ready l (s.core.taken + length xs) (s.core.clips + clips_after taps m s.line.items xs)) went in
+          rw (made, last) (subst (λ (u : TapState M). EachThrough acts xs (frames_after taps m s.line.items xs) u (ready (through s.line xs) (s.core.taken + length xs) (s.core.clips + clips_after taps m s.line.items xs))) (sym start) fed)
 
-    -- the same, each given before the next is taken
-    pub block-through : (s : TapState M) (line : Frames ℤ) (n clips : ℕ) (input output : List ℤ) → s.arguments ≡ m → IsTapState taps s → s.core.pending ≡ None → s.core.ended ≡ false
-        → n * taps.channels m ≤ length output
-        → pieces (taps.channels m) n output ≡ frames_after taps m s.line.items (pieces (taps.channels m) n input) → clips ≡ clips_after taps m s.line.items (pieces (taps.channels m) n input)
-        → line.items ≡ last_of s.line.capacity (s.line.items ++ pieces (taps.channels m) n input) → line.capacity ≡ s.line.capacity → line.channels ≡ s.line.channels
-        → EachThrough acts (pieces (taps.channels m) n input) (pieces (taps.channels m) n output) s (record s { core = after_passing n clips s.core; line = line })
-    block-through s line n clips input output e is none running long made counted items capacity channels =
-        let xs : List Samples = pieces (taps.channels m) n input in
-        let same : ◌≡◌ {A = Frames ℤ} (record { items = line.items; capacity = line.capacity; channels = line.channels }) (through s.line xs) = rw (items, capacity, channels) refl in
-        let went : line ≡ through s.line xs = same in
-        let sides : All (λ (y : Samples). length y ≡ taps.channels m) (frames_after taps m s.line.items xs) = rw (← made) (pieces-sides (taps.channels m) n output long) in
-        let fed : EachThrough acts xs (frames_after taps m s.line.items xs) (ready s.line s.core.taken s.core.clips) (ready (through s.line xs) (s.core.taken + length xs) (s.core.clips + clips_after taps m s.line.items xs)) = taps-through xs s.line s.core.taken s.core.clips (is.capacity ∙ ap taps.reach e) is.line.within sides in
-        let many : length xs ≡ n = length-pieces (taps.channels m) n input in
-        let start : s ≡ ready s.line s.core.taken s.core.clips = ready-is s e is none running in
-        let left : record s { core = after_passing n clips s.core; line = line } ≡ ready line (s.core.taken + n) (s.core.clips + clips) = ap (λ (u : TapState M). record u { core = after_passing n clips u.core; line = line }) start in
-        let last : record s { core = after_passing n clips s.core; line = line } ≡ (ready (through s.line xs) (s.core.taken + length xs) (s.core.clips + clips_after taps m s.line.items xs)) =
-        left ∙ ap (λ (j : ℕ). ready line (s.core.taken + j) (s.core.clips + clips)) (sym many) ∙ ap (λ (j : ℕ). ready line (s.core.taken + length xs) (s.core.clips + j)) counted ∙ ap (λ (l : Frames ℤ). ready l (s.core.taken + length xs) (s.core.clips + clips_after taps m s.line.items xs)) went in
-        rw (made, last) (subst (λ (u : TapState M). EachThrough acts xs (frames_after taps m s.line.items xs) u (ready (through s.line xs) (s.core.taken + length xs) (s.core.clips + clips_after taps m s.line.items xs))) (sym start) fed)
+      pub block-fed : Fed acts s (pieces (taps.channels m) n input) (pieces (taps.channels m) n output) (record s { core = after_passing n clips s.core; line = line })
+      block-fed = Fed-through acts _ _ s (record s { core = after_passing n clips s.core; line = line }) block-through

@@ -6,6 +6,7 @@ use Rattle.fx_frame_base.specs.declared.feed.Passing.TheVariants.{Kept, Through,
 use Rattle.fx_frame_base.specs.Feed.{Fed, GaveNext, IsHeld, PassedOn, TookNext, nothing, taken, given}
 use Rattle.fx_frame_base.specs.Frame.{Samples}
 use Rattle.fx_frame_base.specs.Holds.{total}
+use Rattle.fx_frame_base.specs.Pipeline.{EachThrough}
 use Rattle.fx_frame_base.specs.Stage.{Acts, Counts, Given, after_taking, kind}
 
 pub total-append : {X : Type 0} (f : X → ℕ) (xs ys : List X) → total f (xs ++ ys) ≡ total f xs + total f ys
@@ -65,6 +66,16 @@ module _ {S R : Type 0} (acts : Acts S R) where
   Fed-then first s t xs gs ys hs fed nothing = rw (append-nil, append-nil) fed
   Fed-then first s t xs gs ys hs fed (taken vs ws x u u' more took) = rw (← append_assoc) (taken _ _ x u u' (Fed-then first s u xs gs vs ws fed more) took)
   Fed-then first s t xs gs ys hs fed (given vs ws g u u' more gave) = rw (← append_assoc) (given _ _ g u u' (Fed-then first s u xs gs vs ws fed more) gave)
+
+  -- frames of which each is given before the next is taken
+  pub Fed-through : (xs ys : List Samples) (s s' : S) → EachThrough acts xs ys s s' → Fed acts s xs ys s'
+  Fed-through [] [] s s' each = rw each nothing
+  Fed-through (x ∷ xs) (y ∷ ys) s s' each =
+      let passed = each.1 in
+      let one : Fed acts s (x ∷ []) (y ∷ []) each.0 = given (x ∷ []) [] y passed.0 each.0 (taken [] [] x s passed.0 nothing passed.1) passed.2 in
+      Fed-then s each.0 s' (x ∷ []) (y ∷ []) xs ys one (Fed-through xs ys each.0 s' each.3)
+  Fed-through [] (y ∷ ys) s s' each = absurd each
+  Fed-through (x ∷ xs) [] s s' each = absurd each
 
 -- A stage that is one of several kinds is fed as the stage that it is.
 module _ {S R T Q : Type 0} (acts : Acts S R) (whole : Acts T Q) (wrap : S → T) (name : R → Q) (recipes : (s : S) → whole.recipe (wrap s) ≡ name (acts.recipe s)) (kinds : (r : R) → whole.kind_of (name r) ≡ acts.kind_of r) (rests : (s : S) → whole.rest (wrap s) ≡ acts.rest s) (counts : (s : S) → whole.counts (wrap s) ≡ acts.counts s) (dry : (s : S) → whole.dry (wrap s) ≡ acts.dry s) (stored : (s : S) → whole.stored (wrap s) ≡ acts.stored s) where

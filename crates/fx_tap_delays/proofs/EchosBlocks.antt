@@ -3,7 +3,7 @@ use Rattle.std.proofs.Common.{◌≡◌, ◌+◌, ◌*◌, ◌<◌, ◌≤◌, �
 use Rattle.std.proofs.lemmas.List.{length-map}
 use Rattle.fx_tap_delays.specs.DelayExtents.{sum_of_delays}
 use Rattle.fx_frame_base.specs.declared.feed.Passing.TheVariants.{Through}
-use Rattle.fx_frame_base.specs.Feed.{Fed, GaveNext, PassedOn, TookNext, nothing, taken, given}
+use Rattle.fx_frame_base.specs.Feed.{Fed, GaveNext, PassedOn, TookNext}
 use Rattle.fx_frame_base.specs.Frame.{Samples}
 use Rattle.fx_frame_base.specs.Holds.{total}
 use Rattle.fx_frame_line.specs.Line.{Frames, pushed, pushed_out}
@@ -12,7 +12,7 @@ use Rattle.fx_frame_base.specs.Pipeline.{EachThrough}
 use Rattle.fx_frame_base.specs.Stage.{Given, IsDry}
 use Rattle.fx_frame_base.specs.StageCore.{after_passing}
 use Rattle.fx_frame_base.proofs.Cores.{IsCore-passed, is-passed-core, passed_core}
-use Rattle.fx_frame_base.proofs.FedLaws.{Fed-then}
+use Rattle.fx_frame_base.proofs.FedLaws.{Fed-through}
 use Rattle.fx_frame_base.proofs.Pieces.{length-pieces}
 use Rattle.fx_tap_delays.specs.Echo.{EchoArguments}
 use Rattle.fx_tap_delays.specs.EchosState.{EchosState, IsEchoLine, IsEchos, came_of, delay_at, echos_acts, fed, frame_of_lines, frames_of_lines, line_outputs, line_at, lines_after, or_silence, echo_places, series_lines_after, through_lines}
@@ -74,24 +74,6 @@ module _ (a : EchoArguments) where
       } in
       (mid, took, gave, refl)
 
-  one-fed : (lines : List (Frames ℤ)) (count clips : ℕ) (x : Samples) → echo_places lines ≡ sum_of_delays a.echo.taps
-      → Fed echos_acts (ready lines count clips) (x ∷ []) ((made lines x).samples ∷ []) (ready (next lines x) (count + 1) (clips + (made lines x).clips))
-  one-fed lines count clips x places =
-      let passed = one-passed lines count clips x places in
-      given (x ∷ []) [] (made lines x).samples passed.0 (ready (next lines x) (count + 1) (clips + (made lines x).clips)) (taken [] [] x (ready lines count clips) passed.0 nothing passed.1) passed.2
-
-  -- frame by frame
-  pub lines-fed : (xs : List Samples) (lines : List (Frames ℤ)) (count clips : ℕ) → echo_places lines ≡ sum_of_delays a.echo.taps
-      → Fed echos_acts (ready lines count clips) xs (map (λ (g : Given). g.samples) (through_lines a lines xs)) (ready (series_lines_after a.channels lines xs) (count + length xs) (clips + total (λ (g : Given). g.clips) (through_lines a lines xs)))
-  lines-fed [] lines count clips places = rw (add-zero, add-zero) nothing
-  lines-fed (x ∷ xs) lines count clips places =
-      let one = one-fed lines count clips x places in
-      let more = lines-fed xs (next lines x) (count + 1) (clips + (made lines x).clips) (places-after a.channels lines x (replicate a.channels (pos 0)) ∙ places) in
-      let all : Fed echos_acts (ready lines count clips) (x ∷ xs) (map (λ (g : Given). g.samples) (through_lines a lines (x ∷ xs))) (ready (series_lines_after a.channels lines (x ∷ xs)) (count + 1 + length xs) (clips + (made lines x).clips + total (λ (g : Given). g.clips) (through_lines a (next lines x) xs))) = Fed-then echos_acts _ _ _ _ _ _ _ one more in
-      let many : count + 1 + length xs ≡ count + length (x ∷ xs) = omega arith in
-      let clipped : clips + (made lines x).clips + total (λ (g : Given). g.clips) (through_lines a (next lines x) xs) ≡ clips + total (λ (g : Given). g.clips) (through_lines a lines (x ∷ xs)) = omega arith in
-      rw (many, clipped) at all
-
   ready-dry : (lines : List (Frames ℤ)) (count clips : ℕ) → IsDry echos_acts (ready lines count clips)
   ready-dry lines count clips = record { due = λ e. refl; over = λ e. absurd (cc (e)) }
 
@@ -132,22 +114,18 @@ module _ (s : EchosState) (lines : List (Frames ℤ)) (is : IsEchos s) (none : s
 
   module _ (n clips : ℕ) (input output : List ℤ) (out_is : pieces s.arguments.channels n output ≡ map (λ (g : Given). g.samples) (through_lines s.arguments s.lines (pieces s.arguments.channels n input)))
       (counted : clips ≡ total (λ (g : Given). g.clips) (through_lines s.arguments s.lines (pieces s.arguments.channels n input))) (went : lines ≡ series_lines_after s.arguments.channels s.lines (pieces s.arguments.channels n input)) where
-    block-of : (P : List Samples → EchosState → EchosState → Type 0)
-        → P (map (λ (g : Given). g.samples) (through_lines s.arguments s.lines (pieces s.arguments.channels n input))) (ready s.arguments s.lines s.core.taken s.core.clips) (ready s.arguments (series_lines_after s.arguments.channels s.lines (pieces s.arguments.channels n input)) (s.core.taken + length (pieces s.arguments.channels n input)) (s.core.clips + total (λ (g : Given). g.clips) (through_lines s.arguments s.lines (pieces s.arguments.channels n input))))
-        → P (pieces s.arguments.channels n output) s (passed_echos s lines n clips)
-    block-of P p =
-        let gs : List Given = through_lines s.arguments s.lines (pieces s.arguments.channels n input) in
-        rw (out_is, counted, went)
-        (subst (λ (u : EchosState). P (map (λ (g : Given). g.samples) gs) u (passed_echos u (series_lines_after s.arguments.channels s.lines (pieces s.arguments.channels n input)) n (total (λ (g : Given). g.clips) gs))) (ready-is s is none running)
-        (rw (length-pieces s.arguments.channels n input) at p))
-
-    -- a block of frames: the counters are added to once
-    pub block-fed : Fed echos_acts s (pieces s.arguments.channels n input) (pieces s.arguments.channels n output) (passed_echos s lines n clips)
-    block-fed = block-of (λ ys u v. Fed echos_acts u (pieces s.arguments.channels n input) ys v) (lines-fed s.arguments (pieces s.arguments.channels n input) s.lines s.core.taken s.core.clips (places-late s is))
-
-    -- the same, each frame given before the next is taken
+    -- a block of frames, each given before the next is taken: the counters are added to once
     pub block-through : EachThrough echos_acts (pieces s.arguments.channels n input) (pieces s.arguments.channels n output) s (passed_echos s lines n clips)
-    block-through = block-of (λ ys u v. EachThrough echos_acts (pieces s.arguments.channels n input) ys u v) (lines-through s.arguments (pieces s.arguments.channels n input) s.lines s.core.taken s.core.clips (places-late s is))
+    block-through =
+        let xs : List Samples = pieces s.arguments.channels n input in
+        let gs : List Given = through_lines s.arguments s.lines xs in
+        let through = lines-through s.arguments xs s.lines s.core.taken s.core.clips (places-late s is) in
+        rw (out_is, counted, went)
+        (subst (λ (u : EchosState). EachThrough echos_acts xs (map (λ (g : Given). g.samples) gs) u (passed_echos u (series_lines_after s.arguments.channels s.lines xs) n (total (λ (g : Given). g.clips) gs))) (ready-is s is none running)
+        (rw (length-pieces s.arguments.channels n input) at through))
+
+    pub block-fed : Fed echos_acts s (pieces s.arguments.channels n input) (pieces s.arguments.channels n output) (passed_echos s lines n clips)
+    block-fed = Fed-through echos_acts _ _ s (passed_echos s lines n clips) block-through
 
 -- the state after it
 pub IsEchos-block : (s : EchosState) (lines : List (Frames ℤ)) (n clips : ℕ) → IsEchos s → s.core.pending ≡ None → s.core.ended ≡ false → s.core.taken + n ≤ 2 ^ 56 → length lines ≡ length s.lines

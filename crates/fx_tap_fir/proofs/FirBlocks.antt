@@ -5,7 +5,7 @@ use Rattle.std.proofs.lemmas.List.{drop_all, drop_at, length-drop, length-map, l
 use Rattle.fx_fixed.specs.Rounding.{rounding}
 use Rattle.fx_fixed.specs.declared.gains.TheConstants.{UNIT}
 use Rattle.fx_frame_base.specs.declared.feed.Passing.TheVariants.{Through}
-use Rattle.fx_frame_base.specs.Feed.{Fed, GaveNext, PassedOn, TookNext, nothing, taken, given}
+use Rattle.fx_frame_base.specs.Feed.{Fed, GaveNext, PassedOn, TookNext}
 use Rattle.fx_frame_base.specs.Frame.{Samples}
 use Rattle.fx_frame_base.specs.Holds.{total}
 use Rattle.fx_frame_line.specs.Line.{Frames, IsLine, channel_of}
@@ -14,7 +14,7 @@ use Rattle.fx_frame_base.specs.Pipeline.{EachThrough}
 use Rattle.fx_frame_base.specs.Stage.{Given, IsDry}
 use Rattle.fx_frame_base.specs.StageCore.{after_passing}
 use Rattle.fx_frame_base.proofs.Cores.{IsCore-passed}
-use Rattle.fx_frame_base.proofs.FedLaws.{Fed-then}
+use Rattle.fx_frame_base.proofs.FedLaws.{Fed-through}
 use Rattle.fx_frame_base.proofs.Puts.{pieces-split, pieces-same}
 use Rattle.fx_frame_base.proofs.Pieces.{length-pieces, pieces-front}
 use Rattle.fx_tap_fir.specs.Fir.{FirArguments, centre, filtered_frame, filtered_sample}
@@ -192,30 +192,6 @@ module _ (channels : ℕ) (b : List ℤ) where
       } in
       (mid, took, gave, refl)
 
-  -- frame by frame
-  pub frames-fed : (xs : List Samples) (line : Frames ℤ) (count number clips : ℕ) → line.capacity + 1 ≡ length (reverse b) → length line.items ≤ line.capacity → centre (length (reverse b)) ≤ length line.items → number + centre (length (reverse b)) ≡ count
-      → Fed fir_acts (ready line count number clips) xs (frames_after fir_taps made_with line.items xs) (ready (through line xs) (count + length xs) (number + length xs) (clips + clips_after fir_taps made_with line.items xs))
-  frames-fed [] line count number clips full within due counted = rw (add-zero, add-zero, add-zero, last-whole line.capacity line.items within) nothing
-  frames-fed (x ∷ xs) line count number clips full within due counted =
-      let next : Frames ℤ = through line (x ∷ []) in
-      let made : Given = made_after line x in
-      let long : fir_taps.reach made_with ≤ line.capacity = omega (arith, full) in
-      let steps : given_after fir_taps made_with line.items (x ∷ xs) ≡ made ∷ given_after fir_taps made_with next.items xs = rest_unchanged-step fir_taps fir-near made_with line.items xs x line.capacity within long in
-      let frames : frames_after fir_taps made_with line.items (x ∷ xs) ≡ made.samples ∷ frames_after fir_taps made_with next.items xs = ap (map (λ (g : Given). g.samples)) steps in
-      let clipped : clips_after fir_taps made_with line.items (x ∷ xs) ≡ made.clips + clips_after fir_taps made_with next.items xs = ap (total (λ (g : Given). g.clips)) steps in
-      let size : length next.items ≡ min (length line.items + 1) line.capacity = length-last line.capacity (line.items ++ x ∷ []) ∙ ap (λ n. min n line.capacity) (length-append line.items (x ∷ [])) in
-      let free : length next.items ≤ next.capacity = omega (arith, size) in
-      let later : centre (length (reverse b)) ≤ length next.items = omega (arith, size, due, full) in
-      let passed = one-passed line count number clips x full within due counted in
-      let one : Fed fir_acts (ready line count number clips) (x ∷ []) (made.samples ∷ []) (ready next (count + 1) (number + 1) (clips + made.clips)) =
-      given (x ∷ []) [] made.samples passed.0 (ready next (count + 1) (number + 1) (clips + made.clips)) (taken [] [] x (ready line count number clips) passed.0 nothing passed.1) passed.2 in
-      let more = frames-fed xs next (count + 1) (number + 1) (clips + made.clips) full free later (omega (arith, counted)) in
-      let all : Fed fir_acts (ready line count number clips) (x ∷ xs) (made.samples ∷ frames_after fir_taps made_with next.items xs) (ready (through next xs) (count + 1 + length xs) (number + 1 + length xs) (clips + made.clips + clips_after fir_taps made_with next.items xs)) = Fed-then fir_acts _ _ _ _ _ _ _ one more in
-      let places : count + 1 + length xs ≡ count + length (x ∷ xs) = omega arith in
-      let numbers : number + 1 + length xs ≡ number + length (x ∷ xs) = omega arith in
-      let sums : clips + made.clips + clips_after fir_taps made_with next.items xs ≡ clips + clips_after fir_taps made_with line.items (x ∷ xs) = omega (arith, clipped) in
-      rw (frames, ← last-first line.capacity line.items xs x, ← sums, ← places, ← numbers) all
-
   ready-dry : (line : Frames ℤ) (count number clips : ℕ) → number + centre (length (reverse b)) ≡ count → IsDry fir_acts (ready line count number clips)
   ready-dry line count number clips counted = record { due = λ e. omega (arith, counted); over = λ e. absurd (cc (e)) }
 
@@ -261,31 +237,7 @@ ready-is s h k t over =
     let whole : ◌≡◌ {A = FirState} (record { channels = s.channels; backwards = s.backwards; line = s.line; core = record { pending = s.core.pending; pending_clips = s.core.pending_clips; taken = s.core.taken; given = s.core.given; clips = s.core.clips; ended = s.core.ended }; tail = s.tail }) (ready s.channels s.backwards s.line s.core.taken s.core.given s.core.clips) = rw (h, k, t, over) refl in
     whole
 
--- a block of frames: the counters are added to once
-pub block-fed : (s : FirState) (line : Frames ℤ) (n clips : ℕ) (input output : List ℤ) → s.core.pending ≡ None → s.core.pending_clips ≡ 0 → s.tail ≡ 0 → s.core.ended ≡ false → s.core.given + centre (length (reverse s.backwards)) ≡ s.core.taken
-    → s.line.capacity + 1 ≡ length (reverse s.backwards) → length s.line.items ≤ s.line.capacity → centre (length (reverse s.backwards)) ≤ length s.line.items
-    → pieces s.channels n output ≡ frames_after fir_taps (made_with s.channels s.backwards) s.line.items (pieces s.channels n input) → clips ≡ clips_after fir_taps (made_with s.channels s.backwards) s.line.items (pieces s.channels n input)
-    → line.items ≡ last_of s.line.capacity (s.line.items ++ pieces s.channels n input) → line.capacity ≡ s.line.capacity → line.channels ≡ s.line.channels
-    → Fed fir_acts s (pieces s.channels n input) (pieces s.channels n output) (record s { line = line; core = after_passing n clips s.core })
-block-fed s line n clips input output h k t over counted full within due made clipped items capacity channels =
-    let xs : List Samples = pieces s.channels n input in
-    let b : List ℤ = s.backwards in
-    let Ready : Frames ℤ → ℕ → ℕ → ℕ → FirState = ready s.channels b in
-    let Through : Frames ℤ = record { items = last_of s.line.capacity (s.line.items ++ xs); capacity = s.line.capacity; channels = s.line.channels } in
-    let same : ◌≡◌ {A = Frames ℤ} (record { items = line.items; capacity = line.capacity; channels = line.channels }) Through = rw (items, capacity, channels) refl in
-    let went : line ≡ Through = same in
-    let many : length xs ≡ n = length-pieces s.channels n input in
-    let fed : Fed fir_acts (Ready s.line s.core.taken s.core.given s.core.clips) xs (frames_after fir_taps (made_with s.channels b) s.line.items xs) (Ready Through (s.core.taken + length xs) (s.core.given + length xs) (s.core.clips + clips_after fir_taps (made_with s.channels b) s.line.items xs)) =
-    frames-fed s.channels b xs s.line s.core.taken s.core.given s.core.clips full within due counted in
-    let start : s ≡ Ready s.line s.core.taken s.core.given s.core.clips = ready-is s h k t over in
-    let passed_by : FirState = record s { line = line; core = after_passing n clips s.core } in
-    let new : passed_by ≡ Ready Through (s.core.taken + length xs) (s.core.given + length xs) (s.core.clips + clips_after fir_taps (made_with s.channels b) s.line.items xs) =
-    ready-is passed_by h k t over ∙ ap (λ (l : Frames ℤ). Ready l (s.core.taken + n) (s.core.given + n) (s.core.clips + clips)) went ∙ ap (λ (j : ℕ). Ready Through (s.core.taken + n) (s.core.given + n) (s.core.clips + j)) clipped ∙ ap (λ (j : ℕ). Ready Through (s.core.taken + j) (s.core.given + j) (s.core.clips + clips_after fir_taps (made_with s.channels b) s.line.items xs)) (sym many) in
-    let From : FirState → Type 0 = λ u. Fed fir_acts u xs (frames_after fir_taps (made_with s.channels b) s.line.items xs) (Ready Through (s.core.taken + length xs) (s.core.given + length xs) (s.core.clips + clips_after fir_taps (made_with s.channels b) s.line.items xs)) in
-    let To : FirState → Type 0 = λ u. Fed fir_acts s xs (frames_after fir_taps (made_with s.channels b) s.line.items xs) u in
-    rw made (subst To (sym new) (subst From (sym start) fed))
-
--- the same, each given before the next is taken
+-- a block of frames, each given before the next is taken: the counters are added to once
 pub block-through : (s : FirState) (line : Frames ℤ) (n clips : ℕ) (input output : List ℤ) → s.core.pending ≡ None → s.core.pending_clips ≡ 0 → s.tail ≡ 0 → s.core.ended ≡ false
     → s.line.capacity + 1 ≡ length (reverse s.backwards) → length s.line.items ≤ s.line.capacity
     → (1 ≤ n → (centre (length (reverse s.backwards)) ≤ length s.line.items) × (s.core.given + centre (length (reverse s.backwards)) ≡ s.core.taken))
@@ -312,6 +264,14 @@ block-through s line n clips input output h k t over full within due made clippe
     let From : FirState → Type 0 = λ u. EachThrough fir_acts xs made_frames u (Ready Next (s.core.taken + length xs) (s.core.given + length xs) all) in
     let To : FirState → Type 0 = λ u. EachThrough fir_acts xs made_frames s u in
     rw made (subst To (sym new) (subst From (sym start) passed))
+
+pub block-fed : (s : FirState) (line : Frames ℤ) (n clips : ℕ) (input output : List ℤ) → s.core.pending ≡ None → s.core.pending_clips ≡ 0 → s.tail ≡ 0 → s.core.ended ≡ false → s.core.given + centre (length (reverse s.backwards)) ≡ s.core.taken
+    → s.line.capacity + 1 ≡ length (reverse s.backwards) → length s.line.items ≤ s.line.capacity → centre (length (reverse s.backwards)) ≤ length s.line.items
+    → pieces s.channels n output ≡ frames_after fir_taps (made_with s.channels s.backwards) s.line.items (pieces s.channels n input) → clips ≡ clips_after fir_taps (made_with s.channels s.backwards) s.line.items (pieces s.channels n input)
+    → line.items ≡ last_of s.line.capacity (s.line.items ++ pieces s.channels n input) → line.capacity ≡ s.line.capacity → line.channels ≡ s.line.channels
+    → Fed fir_acts s (pieces s.channels n input) (pieces s.channels n output) (record s { line = line; core = after_passing n clips s.core })
+block-fed s line n clips input output h k t over counted full within due made clipped items capacity channels =
+    Fed-through fir_acts _ _ _ _ (block-through s line n clips input output h k t over full within (λ some. (due, counted)) made clipped items capacity channels)
 
 -- one frame, passed on in its place
 pub frame-passed : (s : FirState) (line : Frames ℤ) (x y : Samples) (clips : ℕ) → s.core.pending ≡ None → s.core.pending_clips ≡ 0 → s.tail ≡ 0 → s.core.ended ≡ false → s.core.given + centre (length (reverse s.backwards)) ≡ s.core.taken

@@ -1,10 +1,10 @@
 -- Frames that lie one after another, mapped each alone.
-use Rattle.std.proofs.Common.{◌≡◌, ◌+◌, ◌*◌, ◌≤◌, ℕ, Bool, false, List, [], ◌∷◌, ◌++◌, length, map, take, refl, sym, ap, ◌∙◌, arith, add-zero, subst, ℤ, None, Option, Some, is_none, true}
+use Rattle.std.proofs.Common.{◌≡◌, ◌+◌, ◌*◌, ◌≤◌, ℕ, Bool, false, List, [], ◌∷◌, ◌++◌, length, map, take, refl, sym, ap, ◌∙◌, arith, add-zero, subst, ℤ, None, Some}
 use Rattle.std.specs.List.{All}
 use Rattle.std.proofs.lemmas.List.Elements.{All-head, All-tail}
 use Rattle.std.proofs.lemmas.List.{map-append, length-map, length-take-le}
 use Rattle.fx_frame_base.specs.declared.feed.Passing.TheVariants.{Through}
-use Rattle.fx_frame_base.specs.Feed.{Fed, GaveNext, PassedOn, TookNext, nothing, taken, given}
+use Rattle.fx_frame_base.specs.Feed.{Fed, GaveNext, PassedOn, TookNext}
 use Rattle.fx_frame_base.specs.Frame.{Samples}
 use Rattle.fx_frame_base.specs.Lists.{pieces}
 use Rattle.fx_frame_base.specs.Pipeline.{EachThrough}
@@ -12,7 +12,8 @@ use Rattle.fx_frame_base.specs.Stage.{Acts, Given, IsDry}
 use Rattle.fx_frame_base.specs.StageCore.{after_passing}
 use Rattle.fx_frame_base.specs.declared.stage_core.StageCore.{StageCore}
 use Rattle.fx_frame_base.proofs.Cores.{IsPassedCore, is-passed-core, passed_core}
-use Rattle.fx_frame_base.proofs.FedLaws.{Fed-then, total-append}
+use Rattle.fx_frame_base.proofs.FedLaws.{Fed-through, total-append}
+pub use Rattle.fx_frame_base.proofs.Flags.{none-is}
 use Rattle.fx_frame_base.proofs.Puts.{pieces-take}
 use Rattle.fx_frame_base.proofs.Pieces.{length-pieces, pieces-front}
 use Rattle.fx_tap_pointwise.specs.Mapped.{IsMapState, MapState, map_acts}
@@ -68,43 +69,12 @@ module _ {M : Type 0} (inputs outputs : M → ℕ) (mapped : M → Samples → G
       } in
       (mid, took, gave, refl)
 
-  one-fed : (count clips : ℕ) (x : Samples) → length (mapped m x).samples ≡ outputs m
-      → Fed acts (stage (passed_core count clips)) (x ∷ []) ((mapped m x).samples ∷ []) (stage (passed_core (count + 1) (clips + (mapped m x).clips)))
-  one-fed count clips x sides =
-      let passed = one-passed count clips x sides in
-      given (x ∷ []) [] (mapped m x).samples passed.0 (stage (passed_core (count + 1) (clips + (mapped m x).clips))) (taken [] [] x (stage (passed_core count clips)) passed.0 nothing passed.1) passed.2
-
   -- one frame, passed on in its place
   pub frame-passed : (c : StageCore) (x y : Samples) (clips : ℕ) → IsPassedCore c → y ≡ (mapped m x).samples → clips ≡ (mapped m x).clips → length (mapped m x).samples ≡ outputs m
       → PassedOn acts Through (stage c) (stage (after_passing 1 clips c)) x y
   frame-passed c x y clips passed made counted sides =
       let Passes : StageCore → Type 0 = λ d. PassedOn acts Through (stage d) (stage (after_passing 1 (mapped m x).clips d)) x (mapped m x).samples in
       rw (made, counted) (subst Passes (sym passed) (one-passed c.taken c.clips x sides))
-
-  -- frame by frame
-  pub maps-fed : (xs : List Samples) (count clips : ℕ) → All (λ (y : Samples). length y ≡ outputs m) (made_of (mapped m) xs)
-      → Fed acts (stage (passed_core count clips)) xs (made_of (mapped m) xs) (stage (passed_core (count + length xs) (clips + clips_in (mapped m) xs)))
-  maps-fed [] count clips sides = rw (add-zero, add-zero) nothing
-  maps-fed (x ∷ xs) count clips sides =
-      let one : Fed acts (stage (passed_core count clips)) (x ∷ []) ((mapped m x).samples ∷ []) (stage (passed_core (count + 1) (clips + (mapped m x).clips))) =
-      one-fed count clips x (All-head (λ (y : Samples). length y ≡ outputs m) (mapped m x).samples (made_of (mapped m) xs) sides) in
-      let more = maps-fed xs (count + 1) (clips + (mapped m x).clips) (All-tail (λ (y : Samples). length y ≡ outputs m) (mapped m x).samples (made_of (mapped m) xs) sides) in
-      let all : Fed acts (stage (passed_core count clips)) (x ∷ xs) (made_of (mapped m) (x ∷ xs)) (stage (passed_core (count + 1 + length xs) (clips + (mapped m x).clips + clips_in (mapped m) xs))) = Fed-then acts _ _ _ _ _ _ _ one more in
-      let places : count + 1 + length xs ≡ count + length (x ∷ xs) = omega arith in
-      let clipped : clips + (mapped m x).clips + clips_in (mapped m) xs ≡ clips + clips_in (mapped m) (x ∷ xs) = omega arith in
-      rw (places, clipped) at all
-
-  -- a block of frames: the counters are added to once
-  pub block-fed : (c : StageCore) (n clips : ℕ) (input output : List ℤ) → IsPassedCore c → n * outputs m ≤ length output
-      → pieces (outputs m) n output ≡ made_of (mapped m) (pieces (inputs m) n input) → clips ≡ clips_in (mapped m) (pieces (inputs m) n input)
-      → Fed acts (stage c) (pieces (inputs m) n input) (pieces (outputs m) n output) (stage (after_passing n clips c))
-  block-fed c n clips input output passed long made counted =
-      let xs : List Samples = pieces (inputs m) n input in
-      let sides : All (λ (y : Samples). length y ≡ outputs m) (made_of (mapped m) xs) = rw (← made) (pieces-sides (outputs m) n output long) in
-      let many : length xs ≡ n = length-pieces (inputs m) n input in
-      let Feeds : StageCore → Type 0 = λ d. Fed acts (stage d) xs (made_of (mapped m) xs) (stage (after_passing (length xs) (clips_in (mapped m) xs) d)) in
-      let fed : Feeds c = subst Feeds (sym passed) (maps-fed xs c.taken c.clips sides) in
-      rw (made, counted) (rw many at fed)
 
   passed-dry : (count clips : ℕ) → IsDry acts (stage (passed_core count clips))
   passed-dry count clips = record { due = λ e. refl; over = λ e. absurd (cc (e)) }
@@ -122,16 +92,25 @@ module _ {M : Type 0} (inputs outputs : M → ℕ) (mapped : M → Samples → G
         rw (places, clipped) at more,
       )
 
+  -- a block of frames, each given before the next is taken: the counters are added to once
+  pub block-through : (c : StageCore) (n clips : ℕ) (xs ys : List Samples) → IsPassedCore c → length xs ≡ n → All (λ (y : Samples). length y ≡ outputs m) ys → ys ≡ made_of (mapped m) xs → clips ≡ clips_in (mapped m) xs
+      → EachThrough acts xs ys (stage c) (stage (after_passing n clips c))
+  block-through c n clips xs ys passed many sides made counted =
+      let sided = rw made at sides in
+      let Passes : StageCore → Type 0 = λ d. EachThrough acts xs (made_of (mapped m) xs) (stage d) (stage (after_passing (length xs) (clips_in (mapped m) xs) d)) in
+      let through : Passes c = subst Passes (sym passed) (maps-through xs c.taken c.clips sided) in
+      rw (made, counted) (rw many at through)
+
+  -- the same of the samples of a block
+  pub block-fed : (c : StageCore) (n clips : ℕ) (input output : List ℤ) → IsPassedCore c → n * outputs m ≤ length output
+      → pieces (outputs m) n output ≡ made_of (mapped m) (pieces (inputs m) n input) → clips ≡ clips_in (mapped m) (pieces (inputs m) n input)
+      → Fed acts (stage c) (pieces (inputs m) n input) (pieces (outputs m) n output) (stage (after_passing n clips c))
+  block-fed c n clips input output passed long made counted =
+      let through = block-through c n clips _ _ passed (length-pieces (inputs m) n input) (pieces-sides (outputs m) n output long) made counted in
+      Fed-through acts _ _ _ _ through
+
 -- a block of frames of which each is given before the next is taken, by a stage that is dry
 pub dry-through : {M : Type 0} (inputs outputs : M → ℕ) (mapped : M → Samples → Given) (s : MapState M) (n clips : ℕ) (xs ys : List Samples) → IsMapState outputs s → s.core.pending ≡ None → s.core.ended ≡ false → length xs ≡ n → All (λ (y : Samples). length y ≡ outputs s.mapping) ys → ys ≡ made_of (mapped s.mapping) xs → clips ≡ clips_in (mapped s.mapping) xs
     → EachThrough (map_acts inputs outputs mapped) xs ys s (record s { core = after_passing n clips s.core })
 dry-through inputs outputs mapped s n clips xs ys is none running many sides made counted =
-    let c : StageCore = s.core in
-    let sided = rw made at sides in
-    let Passes : StageCore → Type 0 = λ d. EachThrough (map_acts inputs outputs mapped) xs (made_of (mapped s.mapping) xs) (stage inputs outputs mapped s.mapping d) (stage inputs outputs mapped s.mapping (after_passing (length xs) (clips_in (mapped s.mapping) xs) d)) in
-    let through : Passes c = subst Passes (sym (is-even outputs s is none running)) (maps-through inputs outputs mapped s.mapping xs c.taken c.clips sided) in
-    rw (made, counted) (rw many at through)
-
-pub none-is : {X : Type 0} (o : Option X) → is_none o ≡ true → o ≡ None
-none-is None e = refl
-none-is (Some x) e = absurd (cc)
+    block-through inputs outputs mapped s.mapping s.core n clips xs ys (is-even outputs s is none running) many sides made counted
