@@ -16,7 +16,7 @@ use Rattle.fx_frame_base.specs.Given.{plain}
 use Rattle.fx_cut.specs.Pad.{PadArguments, IsPads, lengths, pad_due, padded, pads_from_start, placed, silent_at}
 use Rattle.fx_cut.specs.PadState.{PadState, IsPad, all_padded, pad_acts, pad_after, pad_left, pad_rest, padded_from, silence_from, unless_last}
 use Rattle.fx_cut.proofs.Fallen.{fallen, stays, no_fall, stays-free, is_full, oldest-first}
-use Rattle.fx_cut.proofs.PendingLemmas.{none_of}
+use Rattle.fx_frame_base.proofs.Flags.{none-is}
 use Rattle.fx_cut.proofs.PadLaws.{upto_more, length_from, length_padded, none-due, silence-bound, silence-parts}
 use Rattle.fx_cut.proofs.PadRest.{pad_new, pad_taken, pad_oldest, pad_drained}
 use Rattle.fx_frame.proofs.DryLaws.{dry-tail}
@@ -25,7 +25,7 @@ use Rattle.fx_frame.proofs.DryLaws.{dry-tail}
 pub dry-pending : (pending : Option Samples) (silent : ℕ) → (is_none pending && nat_eq silent 0) ≡ true → (pending ≡ None) × (silent ≡ 0)
 dry-pending pending silent h =
     let p = and_parts (is_none pending) (nat_eq silent 0) h in
-    (none_of pending p.0, eqb-true silent 0 p.1)
+    (none-is pending p.0, eqb-true silent 0 p.1)
 
 -- the frame that leaves the line, and the others
 popped-length : (items items' : List Samples) (pending : Option Samples) → pending ≡ slice_get items 0 → items' ≡ drop 1 items → length items' + length (option_to_list pending) ≡ length items

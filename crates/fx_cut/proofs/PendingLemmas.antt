@@ -1,7 +1,6 @@
 -- A pending frame, or none.
 use Rattle.std.proofs.Common.{◌≡◌, ◌≤◌, true, [], length, refl, arith, Option, Some, None, option_to_list, is_none}
 use Rattle.fx_frame_base.specs.Frame.{Samples}
-pub use Rattle.fx_frame_base.proofs.Flags.{none-is as none_of}
 
 pub empty-pending : (pending : Option Samples) → is_none pending ≡ true → option_to_list pending ≡ []
 empty-pending None h = refl

@@ -11,7 +11,8 @@ use Rattle.fx_frame_base.specs.Stage.{Gave, IsDry, spent}
 use Rattle.fx_frame_base.specs.StageCore.{pending_frames}
 use Rattle.fx_cut.specs.Selected.{AreDetermined, IsSelectedState, Selects, SelectedState, determined_in, selected_acts, selected_here}
 use Rattle.fx_cut.proofs.Fallen.{fallen, stays}
-use Rattle.fx_cut.proofs.PendingLemmas.{at_most_one, none_of}
+use Rattle.fx_frame_base.proofs.Flags.{none-is}
+use Rattle.fx_cut.proofs.PendingLemmas.{at_most_one}
 use Rattle.fx_cut.proofs.SelectSteps.{IsSelect-fallen, IsSelect-inside, Took-fallen, Took-inside, came, due-given, stayed}
 
 module _ {M : Type 0} (selects : Selects M) where
@@ -71,7 +72,7 @@ module _ {M : Type 0} (selects : Selects M) where
         → PassedOn (selected_acts selects) Kept s (stayed selects s line) frame y × IsSelectedState selects (stayed selects s line)
     passed-out o e left =
         let none : [] ≡ selected_here selects s.arguments (determined_in selects s.arguments (s.core.taken - length s.line.items)) (s.core.taken - length s.line.items) o = rw left refl in
-        let same : stayed selects s line ≡ came selects s line None = rw (none_of s.core.pending dry, is.core.no_pending_clips) refl in
+        let same : stayed selects s line ≡ came selects s line None = rw (none-is s.core.pending dry, is.core.no_pending_clips) refl in
         let now = IsSelect-fallen selects ok s frame is dry running line o None e items lined capacity channels below none (λ z q. absurd (cc (q))) in
         rw same ((record { dry = dry; due = due-given selects s is running dry; not_ended = running; not_spent = unspent; took = Took-fallen selects ok s frame is dry running line o None e items none; held = held-select (came selects s line None) now }, dry), now)
 
@@ -80,7 +81,7 @@ module _ {M : Type 0} (selects : Selects M) where
         → plain g ≡ selects.made s.arguments (determined_in selects s.arguments (s.core.taken - length s.line.items)) (s.core.taken - length s.line.items) o → length g ≡ selects.channels s.arguments → IsFrame g
         → PassedOn (selected_acts selects) Through s (record s { line = line; core = record s.core { taken = s.core.taken + 1; given = s.core.given + 1 } }) frame g × IsSelectedState selects (record s { line = line; core = record s.core { taken = s.core.taken + 1; given = s.core.given + 1 } })
     passed-given o g e here made width framed =
-        let none : s.core.pending ≡ None = none_of s.core.pending dry in
+        let none : s.core.pending ≡ None = none-is s.core.pending dry in
         let is-made : plain g ∷ [] ≡ selected_here selects s.arguments (determined_in selects s.arguments (s.core.taken - length s.line.items)) (s.core.taken - length s.line.items) o = rw here (ap (λ f. f ∷ []) made) in
         let pending : IsPending (selects.channels s.arguments) (Some g) = λ z q. let same : g ≡ z = cc in (rw (← same) framed, rw (← same) width) in
         let mid : SelectedState M = came selects s line (Some g) in

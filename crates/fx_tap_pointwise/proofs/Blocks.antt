@@ -13,7 +13,6 @@ use Rattle.fx_frame_base.specs.StageCore.{after_passing}
 use Rattle.fx_frame_base.specs.declared.stage_core.StageCore.{StageCore}
 use Rattle.fx_frame_base.proofs.Cores.{IsPassedCore, is-passed-core, passed_core}
 use Rattle.fx_frame_base.proofs.FedLaws.{Fed-through, total-append}
-pub use Rattle.fx_frame_base.proofs.Flags.{none-is}
 use Rattle.fx_frame_base.proofs.Puts.{pieces-take}
 use Rattle.fx_frame_base.proofs.Pieces.{length-pieces, pieces-front}
 use Rattle.fx_tap_pointwise.specs.Mapped.{IsMapState, MapState, map_acts}

@@ -2,7 +2,7 @@ use Rattle.std.proofs.Common.{◌≡◌, ◌*◌, ◌∙◌, ℕ, length, sym, a
 use Rattle.fx_frame_base.specs.Pipeline.{EachThrough}
 use Rattle.fx_frame_base.specs.Lists.{pieces}
 use Rattle.fx_cut.specs.Selected.{IsSelectedState, selected_acts}
-use Rattle.fx_cut.proofs.PendingLemmas.{none_of}
+use Rattle.fx_frame_base.proofs.Flags.{none-is}
 use Rattle.fx_cut.proofs.SelectMany.{passed}
 use Rattle.fx_cut.proofs.SelectSteps.{state}
 use Rattle.fx_cut.proofs.SelectThrough.{group-passed, one_to_one-alike, one_to_one-full}
@@ -58,7 +58,7 @@ passes g c =
     let n : ℕ = c.args.count in
     let width = c.channels-channels.ensures in
     let may = rw (← c.self.view_is) at c.requires in
-    let empty : s.core.pending ≡ None = none_of s.core.pending may.dry in
+    let empty : s.core.pending ≡ None = none-is s.core.pending may.dry in
     let a = one_to_one-alike selects g.S.Selection.determined s n c.self.invariant may.not_ended may.one_to_one empty may.ahead may.below_limit in
     let full = one_to_one-full selects g.S.Selection.determined s n c.self.invariant may.not_ended may.one_to_one in
     let delivered = c.exchange_full.ensures in
@@ -75,6 +75,6 @@ returns-clause-through g c = rw (← c.self.view_is, c.give_many.ensures, c.take
 pub returns-clause-lined : goal.returns-clause-lined
 returns-clause-lined g c =
     let may = rw (← c.self.view_is) at c.requires in
-    let empty : c.self.inside.core.pending ≡ None = none_of c.self.inside.core.pending may.dry in
+    let empty : c.self.inside.core.pending ≡ None = none-is c.self.inside.core.pending may.dry in
     let within = c.len-held.ensures.line.within in
     rw (c.give_many.ensures, c.take_many.ensures, empty) (simp append-nil (omega (arith, within, c.exchange_full.ensures.capacity, c.self.invariant.capacity)))

@@ -7,7 +7,7 @@ use Rattle.fx_frame_base.proofs.Pieces.{length-pieces}
 use Rattle.fx_frame_line.specs.Line.{pushed_all}
 use Rattle.fx_cut.specs.Selected.{IsSelectedState, selected_acts}
 use Rattle.fx_cut.proofs.Early.{popped-pushed}
-use Rattle.fx_cut.proofs.PendingLemmas.{none_of}
+use Rattle.fx_frame_base.proofs.Flags.{none-is}
 use Rattle.fx_cut.proofs.SelectMany.{passed}
 use Rattle.fx_cut.proofs.SelectSteps.{state}
 use Rattle.fx_cut.proofs.SelectThrough.{group-passed, one_to_one-alike, one_to_one-full}
@@ -29,7 +29,7 @@ passes g c =
     let n : ℕ = c.args.count in
     let width = c.channels-channels.ensures in
     let may = rw (← c.self.view_is) at c.requires in
-    let empty : s.core.pending ≡ None = none_of s.core.pending may.dry in
+    let empty : s.core.pending ≡ None = none-is s.core.pending may.dry in
     let a = one_to_one-alike selects g.S.Selection.determined s n c.self.invariant may.not_ended may.one_to_one empty may.ahead may.below_limit in
     let full = one_to_one-full selects g.S.Selection.determined s n c.self.invariant may.not_ended may.one_to_one in
     let held : n ≤ length s.line.items = may.lined in
@@ -51,7 +51,7 @@ returns g c =
     let selects = g.S.Selection.selects in
     let s = state c.self.inside.core c.self.inside.line c.self.inside.selection in
     let may = rw (← c.self.view_is) at c.requires in
-    let empty : s.core.pending ≡ None = none_of s.core.pending may.dry in
+    let empty : s.core.pending ≡ None = none-is s.core.pending may.dry in
     let left : drop c.args.count (s.line.items ++ pending_frames s.core) ≡ c.pop_frames.new.self.items = rw (empty, append-nil) (sym c.pop_frames.ensures.items) in
     rw (← c.self.view_is, c.give_many.ensures, c.take_many.ensures) (record {
       between = pieces (selects.channels c.self.inside.selection) c.args.count c.select_many.new.samples;

@@ -1,7 +1,8 @@
 use Rattle.std.proofs.Common.{◌≡◌, ◌*◌, false, length, arith, None}
 use Rattle.fx_frame_base.specs.Lists.{pieces}
 use Rattle.fx_frame_base.proofs.Pieces.{length-pieces}
-use Rattle.fx_tap_pointwise.proofs.Blocks.{dry-through, none-is}
+use Rattle.fx_frame_base.proofs.Flags.{none-is}
+use Rattle.fx_tap_pointwise.proofs.Blocks.{dry-through}
 use Rattle.fx_frame.proofs.SamplePieces.{pieces-sides}
 use Rattle.fx_tap_pointwise.proofs.mapped.MappedFeeds.pass_frames.Goals as goal
 

@@ -1,6 +1,7 @@
 use Rattle.std.proofs.Common.{rules, ◌≡◌, ◌++◌, ◌∙◌, false, drop, length, take, sym, ap, arith, None}
 use Rattle.std.proofs.lemmas.List.{length-take-le, take_at}
-use Rattle.fx_tap_pointwise.proofs.Blocks.{frame-passed, is-even, none-is}
+use Rattle.fx_frame_base.proofs.Flags.{none-is}
+use Rattle.fx_tap_pointwise.proofs.Blocks.{frame-passed, is-even}
 use Rattle.fx_tap_pointwise.proofs.mapped.MappedFeeds.pass_places.Goals as goal
 
 pub returns-clause-passed : goal.returns-clause-passed

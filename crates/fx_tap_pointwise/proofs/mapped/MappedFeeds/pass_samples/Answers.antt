@@ -1,5 +1,6 @@
 use Rattle.std.proofs.Common.{◌≡◌, false, length, sym, ap, ◌∙◌, None}
-use Rattle.fx_tap_pointwise.proofs.Blocks.{frame-passed, is-even, none-is}
+use Rattle.fx_frame_base.proofs.Flags.{none-is}
+use Rattle.fx_tap_pointwise.proofs.Blocks.{frame-passed, is-even}
 use Rattle.fx_tap_pointwise.proofs.mapped.MappedFeeds.pass_samples.Goals as goal
 
 pub returns-clause-passed : goal.returns-clause-passed
