@@ -154,5 +154,5 @@ module _ (delays : List ℕ) (line : Frames ℤ) (n : ℕ) (input out : List ℤ
       let none : line.capacity - length line.items ≡ 0 = omega arith in
       (rw same at written) ∙ sym (take-append-le n line.items (pieces (length delays) n input) bound) ∙ (rw none at coming)
 
-pub even-line : (line : Frames ℤ) (ch width n : ℕ) (input : List ℤ) (items : List Samples) → line.channels ≡ ch → width ≡ ch → n * ch ≤ length input → items ≡ pushed_all line (pieces line.channels n (take (n * width) input)) → items ≡ last_of line.capacity (line.items ++ pieces ch n input)
-even-line line ch width n input items same wide free is = rw (same, wide, pieces-take ch n input free) at is
+pub even-line : (line : Frames ℤ) (ch width n : ℕ) (input : List ℤ) → line.channels ≡ ch → width ≡ ch → n * ch ≤ length input → ◌≡◌ {A = Frames ℤ} (record line { items = pushed_all line (pieces line.channels n (take (n * width) input)) }) (record line { items = pushed_all line (pieces ch n input) })
+even-line line ch width n input same wide free = ap (λ fs. record line { items = pushed_all line fs }) (rw (same, wide) (pieces-take ch n input free))

@@ -1,5 +1,5 @@
 -- All channels are delayed by as many frames as the line has places, or each by its own number.
-use Rattle.std.proofs.Common.{arith, length, sym}
+use Rattle.std.proofs.Common.{arith, length, sym, ◌∙◌}
 use Rattle.fx_frame_base.specs.Lists.{pieces}
 use Rattle.fx_tap_delays.proofs.Delaying.{even-all, even-clips, even-line}
 use Rattle.fx_tap_delays.proofs.delay.DelaysTapsMany.tap_many.Goals as goal
@@ -14,7 +14,7 @@ returns-then-all_are-clause-clips c = record { counted = sym (even-clips c.args.
 
 pub returns-then-all_are-clause-line : goal.returns-then-all_are-clause-line
 returns-then-all_are-clause-line c =
-    even-line c.args.line.now (length c.args.self.now) c.channels-channels.result c.args.count c.args.input.now c.delay_evenly.new.line.items c.requires.line.channels c.channels-channels.ensures.value c.requires.input c.delay_evenly.ensures.items
+    c.delay_evenly.ensures.line ∙ even-line c.args.line.now (length c.args.self.now) c.channels-channels.result c.args.count c.args.input.now c.requires.line.channels c.channels-channels.ensures.value c.requires.input
 
 pub returns-clause-clips : goal.returns-clause-clips
 returns-clause-clips c = record { counted = sym (even-clips c.args.self.now c.args.line.now.items (pieces (length c.args.self.now) c.args.count c.args.input.now)); bound = omega arith; small = omega arith }
