@@ -439,9 +439,8 @@ impl PreparedEcho {
         requires samples { length samples.old ≡ count * self.now.channels }
         ensures frames { MakesBlock echo_taps self.now line.old.items count samples.old samples.new }
         ensures clips { CountsClips echo_taps self.now line.old.items count samples.old result }
-        ensures line { line.new ≡ record line.old {
-          items = pushed_all line.old (pieces self.now.channels count samples.old);
-        } }
+        ensures line { let coming = pieces self.now.channels count samples.old in
+            line.new ≡ record line.old { items = pushed_all line.old coming } }
     {
         let _held = line.len();
         let mut places = [0; PLACES];
@@ -470,9 +469,8 @@ impl PreparedEcho {
         requires samples { length samples.old ≡ count * self.now.channels }
         ensures frames { MakesBlock echo_taps self.now line.old.items count samples.old samples.new }
         ensures clips { CountsClips echo_taps self.now line.old.items count samples.old result }
-        ensures line { line.new ≡ record line.old {
-          items = pushed_all line.old (pieces self.now.channels count samples.old);
-        } }
+        ensures line { let coming = pieces self.now.channels count samples.old in
+            line.new ≡ record line.old { items = pushed_all line.old coming } }
     {
         let _held = line.len();
         let mut places = [0; PLACES];

@@ -69,9 +69,8 @@ pub trait TapsMany: Tapping {
         ensures frames { MakesBlock Self.taps self.now line.old.items count input.now output.new }
         ensures rest_unchanged { let n = count * Self.taps.channels self.now in drop n output.new ≡ drop n output.old }
         ensures clips { CountsClips Self.taps self.now line.old.items count input.now result }
-        ensures line { line.new ≡ record line.old {
-          items = pushed_all line.old (pieces (Self.taps.channels self.now) count input.now);
-        } }
+        ensures line { let coming = pieces (Self.taps.channels self.now) count input.now in
+            line.new ≡ record line.old { items = pushed_all line.old coming } }
     {
         tap_by_frames(self, line, input, output, count)
     }
@@ -100,9 +99,8 @@ pub trait TapsMany: Tapping {
         requires samples { length samples.old ≡ count * Self.taps.channels self.now }
         ensures frames { MakesBlock Self.taps self.now line.old.items count samples.old samples.new }
         ensures clips { CountsClips Self.taps self.now line.old.items count samples.old result }
-        ensures line { line.new ≡ record line.old {
-          items = pushed_all line.old (pieces (Self.taps.channels self.now) count samples.old);
-        } }
+        ensures line { let coming = pieces (Self.taps.channels self.now) count samples.old in
+            line.new ≡ record line.old { items = pushed_all line.old coming } }
     {
         tap_over_by_frames(self, line, samples, count)
     }
@@ -208,9 +206,8 @@ pub(crate) fn tap_by_frames<T: Tapping>(
     ensures frames { MakesBlock T.taps tapping.now line.old.items count input.now output.new }
     ensures rest_unchanged { let n = count * T.taps.channels tapping.now in drop n output.new ≡ drop n output.old }
     ensures clips { CountsClips T.taps tapping.now line.old.items count input.now result }
-    ensures line { line.new ≡ record line.old {
-      items = pushed_all line.old (pieces (T.taps.channels tapping.now) count input.now);
-    } }
+    ensures line { let coming = pieces (T.taps.channels tapping.now) count input.now in
+        line.new ≡ record line.old { items = pushed_all line.old coming } }
 {
     let channels = tapping.channels();
     let _held = line.len();
@@ -237,9 +234,8 @@ pub(crate) fn tap_over_by_frames<T: Tapping>(
     requires samples { length samples.old ≡ count * T.taps.channels tapping.now }
     ensures frames { MakesBlock T.taps tapping.now line.old.items count samples.old samples.new }
     ensures clips { CountsClips T.taps tapping.now line.old.items count samples.old result }
-    ensures line { line.new ≡ record line.old {
-      items = pushed_all line.old (pieces (T.taps.channels tapping.now) count samples.old);
-    } }
+    ensures line { let coming = pieces (T.taps.channels tapping.now) count samples.old in
+        line.new ≡ record line.old { items = pushed_all line.old coming } }
 {
     let channels = tapping.channels();
     let _held = line.len();
@@ -260,9 +256,8 @@ fn tap_groups<T: TapsMany>(tapping: &T, line: &mut Line, samples: &mut [i32], co
     requires samples { length samples.old ≡ count * T.taps.channels tapping.now }
     ensures frames { MakesBlock T.taps tapping.now line.old.items count samples.old samples.new }
     ensures clips { CountsClips T.taps tapping.now line.old.items count samples.old result }
-    ensures line { line.new ≡ record line.old {
-      items = pushed_all line.old (pieces (T.taps.channels tapping.now) count samples.old);
-    } }
+    ensures line { let coming = pieces (T.taps.channels tapping.now) count samples.old in
+        line.new ≡ record line.old { items = pushed_all line.old coming } }
 {
     // A single group, as in most chains, needs no division.
     if samples.len() <= SAMPLES_OF_GROUP {

@@ -376,9 +376,8 @@ fn filter_frames(
     ensures rest_unchanged { drop (count * channels) output.new ≡ drop (count * channels) output.old }
     ensures clips { result ≡ clips_in_block fir_taps (fir_with channels (reverse kernel.now)) line.old.items count input.now }
     ensures bound { result ≤ 16 * count }
-    ensures line { line.new ≡ record line.old {
-      items = pushed_all line.old (pieces channels count input.now);
-    } }
+    ensures line { line.new
+        ≡ record line.old { items = pushed_all line.old (pieces channels count input.now) } }
 {
     let maximum = kernel.max_at_once();
     let mut done = 0;
@@ -433,9 +432,8 @@ fn filter_by_frames(
     ensures frames { MakesBlock fir_taps (fir_with channels (reverse kernel.now)) line.old.items count samples.old samples.new }
     ensures clips { result ≡ clips_in_block fir_taps (fir_with channels (reverse kernel.now)) line.old.items count samples.old }
     ensures bound { result ≤ 16 * count }
-    ensures line { line.new ≡ record line.old {
-      items = pushed_all line.old (pieces channels count samples.old);
-    } }
+    ensures line { line.new
+        ≡ record line.old { items = pushed_all line.old (pieces channels count samples.old) } }
 {
     let _held = line.len();
     let mut from = 0;
@@ -465,9 +463,8 @@ fn filter_group<const PLACES: usize, const SAMPLES: usize>(
     ensures frames { MakesBlock fir_taps (fir_with channels (reverse kernel.now)) line.old.items count samples.old samples.new }
     ensures clips { result ≡ clips_in_block fir_taps (fir_with channels (reverse kernel.now)) line.old.items count samples.old }
     ensures bound { result ≤ 16 * count }
-    ensures line { line.new ≡ record line.old {
-      items = pushed_all line.old (pieces channels count samples.old);
-    } }
+    ensures line { line.new
+        ≡ record line.old { items = pushed_all line.old (pieces channels count samples.old) } }
 {
     let mut frames = [0; SAMPLES];
     let frames = &mut frames[..samples.len()];
@@ -497,9 +494,8 @@ fn filter_batch(
     ensures frames { MakesBlock fir_taps (fir_with channels (reverse kernel.now)) line.old.items count samples.old samples.new }
     ensures clips { result ≡ clips_in_block fir_taps (fir_with channels (reverse kernel.now)) line.old.items count samples.old }
     ensures bound { result ≤ 16 * count }
-    ensures line { line.new ≡ record line.old {
-      items = pushed_all line.old (pieces channels count samples.old);
-    } }
+    ensures line { line.new
+        ≡ record line.old { items = pushed_all line.old (pieces channels count samples.old) } }
 {
     if line.len() < line.capacity() || samples.len() > SAMPLES_OF_GROUP {
         return filter_by_frames(kernel, line, channels, count, samples);
