@@ -9,7 +9,7 @@ use Rattle.std.proofs.lemmas.List.Elements.{All-append, All-cons, All-nil}
 use Rattle.std.proofs.Math.Nat.{add-mul}
 use Rattle.fx_frame_base.specs.Frame.{Samples, silence}
 use Rattle.fx_frame_base.specs.Holds.{total}
-use Rattle.fx_frame_line.specs.Line.{Frames, IsLine, pushed_all}
+use Rattle.fx_frame_line.specs.Line.{Frames, IsLine}
 use Rattle.fx_frame_base.specs.Lists.{pieces, tabulate}
 use Rattle.fx_frame_base.specs.Stage.{Given}
 use Rattle.fx_frame_base.proofs.Puts.{part-from, pieces-take, put-from}
@@ -19,7 +19,7 @@ use Rattle.fx_tap_delays.specs.Delay.{delayed_frame}
 use Rattle.fx_tap_delays.specs.DelayState.{delay_taps}
 use Rattle.fx_frame_base.specs.Given.{plain}
 use Rattle.fx_frame.proofs.Tables.{map-tabulate}
-use Rattle.fx_frame.specs.Tapped.{clips_after, frames_after, last_of}
+use Rattle.fx_frame.specs.Tapped.{clips_after, frames_after}
 use Rattle.fx_frame.specs.History.{sample_before}
 use Rattle.fx_frame.proofs.SamplePieces.{pieces-sides}
 use Rattle.fx_frame_base.proofs.Tabulate.{tabulate-replicate, tabulate-same}
@@ -153,6 +153,3 @@ module _ (delays : List ℕ) (line : Frames ℤ) (n : ℕ) (input out : List ℤ
   even-exchanged full bound written =
       let none : line.capacity - length line.items ≡ 0 = omega arith in
       (rw same at written) ∙ sym (take-append-le n line.items (pieces (length delays) n input) bound) ∙ (rw none at coming)
-
-pub even-line : (line : Frames ℤ) (ch width n : ℕ) (input : List ℤ) (items : List Samples) → line.channels ≡ ch → width ≡ ch → n * ch ≤ length input → items ≡ pushed_all line (pieces line.channels n (take (n * width) input)) → items ≡ last_of line.capacity (line.items ++ pieces ch n input)
-even-line line ch width n input items same wide free is = rw (same, wide, pieces-take ch n input free) at is

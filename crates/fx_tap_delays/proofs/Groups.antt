@@ -1,5 +1,5 @@
 -- A loop that writes frames after those that it wrote.
-use Rattle.std.proofs.Common.{◌≡◌, ◌+◌, ◌*◌, ◌≤◌, ℕ, ℤ, List, [], ◌∷◌, ◌++◌, length, take, drop, refl, sym, ap, ◌∙◌, arith, append_assoc}
+use Rattle.std.proofs.Common.{rules, ◌≡◌, ◌+◌, ◌*◌, ◌≤◌, ℕ, ℤ, List, [], ◌∷◌, ◌++◌, length, take, drop, refl, sym, ap, ◌∙◌, arith, append_assoc}
 use Rattle.std.proofs.lemmas.List.{drop-drop, length-drop, length-take-le}
 use Rattle.std.proofs.Math.Nat.{add-mul, mul-le-mul_right}
 use Rattle.fx_frame_base.specs.Frame.{Samples}
@@ -48,35 +48,35 @@ module _ (ch done n count : ℕ) (within : done + n ≤ count) where
     pub group-rest : (start : List ℤ) → drop (done * ch) out ≡ drop (done * ch) start → drop ((done + n) * ch) (put_at (done * ch) (n * ch) made out) ≡ drop ((done + n) * ch) start
     group-rest start e = rw (add-mul done n ch) (drop-put (done * ch) (n * ch) start out made _ group-long (group-end ch done n count (length out) within free) (put-is (done * ch) (n * ch) made out group-long) e)
 
+-- a line with these frames, as many places and as many channels as `start`
+pub same-line : (l start : Frames ℤ) (items : List Samples) → l.items ≡ items → l.capacity ≡ start.capacity → l.channels ≡ start.channels → l ≡ record start { items = items }
+same-line l start items framed places wide = search (rules, framed, places, wide)
+
 -- what a loop made of the first `done` frames of the input, after those of the line `start`: the output was `first`
 pub record MadeFrames {M : Type 0} (taps : Taps M) (m : M) (start : Frames ℤ) (done : ℕ) (input first out : List ℤ) (now : Frames ℤ) : Type 0 where
   pub made : MakesBlock taps m start.items done input out
   pub rest_unchanged : drop (done * taps.channels m) out ≡ drop (done * taps.channels m) first
-  pub line : now.items ≡ pushed_all start (pieces (taps.channels m) done input)
-  pub line_capacity : now.capacity ≡ start.capacity
-  pub line_channels : now.channels ≡ start.channels
+  pub line : now ≡ record start { items = pushed_all start (pieces (taps.channels m) done input) }
 
 -- frames more, of an effect that depends on those before them: `next` of them where there were `done`
 module _ {M : Type 0} (taps : Taps M) (near : IsNear taps) (m : M) (start line : Frames ℤ) (done next : ℕ) (input first out : List ℤ) (ys : List Samples) (held : length start.items ≤ start.capacity) (reach : taps.reach m ≤ start.capacity)
     (more : pieces (taps.channels m) next input ≡ pieces (taps.channels m) done input ++ ys) (old : MadeFrames taps m start done input first out line) where
   pub made-more : (new : List ℤ) (now : Frames ℤ) (zs : List Samples) → pieces (taps.channels m) next new ≡ pieces (taps.channels m) done out ++ zs → drop (next * taps.channels m) new ≡ drop (next * taps.channels m) first → zs ≡ frames_after taps m line.items ys
-      → now.items ≡ pushed_all line ys → now.capacity ≡ line.capacity → now.channels ≡ line.channels → MadeFrames taps m start next input first new now
-  made-more new now zs put rest made items capacity channels =
+      → now ≡ record line { items = pushed_all line ys } → MadeFrames taps m start next input first new now
+  made-more new now zs put rest made pushed =
       let xs : List Samples = pieces (taps.channels m) done input in
       record {
         made =
-            put ∙ ap (λ ps. ps ++ zs) old.made ∙ ap (λ ps. frames_after taps m start.items xs ++ ps) (made ∙ ap (λ l. frames_after taps m l ys) old.line)
+            put ∙ ap (λ ps. ps ++ zs) old.made ∙ ap (λ ps. frames_after taps m start.items xs ++ ps) (made ∙ ap (λ (l : Frames ℤ). frames_after taps m l.items ys) old.line)
             ∙ sym (ap (frames_after taps m start.items) more ∙ frames-joined taps near m start.capacity xs ys start.items held reach);
         rest_unchanged = rest;
-        line = items ∙ ap (λ k. last_of k (line.items ++ ys)) old.line_capacity ∙ ap (λ l. last_of start.capacity (l ++ ys)) old.line ∙ last-joined start.capacity start.items xs ys ∙ sym (ap (λ ps. last_of start.capacity (start.items ++ ps)) more);
-        line_capacity = capacity ∙ old.line_capacity;
-        line_channels = channels ∙ old.line_channels;
+        line = pushed ∙ ap (λ (l : Frames ℤ). record l { items = pushed_all l ys }) old.line ∙ ap (λ fs. record start { items = fs }) (last-joined start.capacity start.items xs ys ∙ sym (ap (λ ps. last_of start.capacity (start.items ++ ps)) more));
       }
 
   pub counted-more : (clips added : ℕ) → clips ≡ clips_in_block taps m start.items done input → added ≡ clips_after taps m line.items ys → clips + added ≡ clips_in_block taps m start.items next input
   counted-more clips added before counted =
       let xs : List Samples = pieces (taps.channels m) done input in
-      ap (λ k. k + added) before ∙ ap (λ k. clips_after taps m start.items xs + k) (counted ∙ ap (λ l. clips_after taps m l ys) old.line)
+      ap (λ k. k + added) before ∙ ap (λ k. clips_after taps m start.items xs + k) (counted ∙ ap (λ (l : Frames ℤ). clips_after taps m l.items ys) old.line)
       ∙ sym (ap (clips_after taps m start.items) more ∙ clips-joined taps near m start.capacity xs ys start.items held reach)
 
   pub clips-more : (clips added n : ℕ) → next ≡ done + n → CountsClips taps m start.items done input clips → added ≡ clips_after taps m line.items ys → added ≤ n * taps.max_clips m → added ≤ 16 * n → CountsClips taps m start.items next input (clips + added)

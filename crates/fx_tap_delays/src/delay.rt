@@ -174,9 +174,8 @@ fn delay_evenly(line: &mut Line, channels: usize, frames: &[i32], count: usize, 
     requires free { count * line.old.channels ≤ length output.old }
     ensures frames { pieces line.old.channels count output.new ≡ frames_leaving line.old count frames.now }
     ensures rest_unchanged { drop (count * line.old.channels) output.new ≡ drop (count * line.old.channels) output.old }
-    ensures items { line.new.items ≡ pushed_all line.old (pieces line.old.channels count frames.now) }
-    ensures capacity { line.new.capacity ≡ line.old.capacity }
-    ensures channels { line.new.channels ≡ line.old.channels }
+    ensures line { let coming = pieces line.old.channels count frames.now in
+        line.new ≡ record line.old { items = pushed_all line.old coming } }
 {
     let silent_frames = (line.capacity() - line.len()).min(count);
     write_silence(output, channels, silent_frames);
@@ -194,9 +193,7 @@ fn delay_evenly(line: &mut Line, channels: usize, frames: &[i32], count: usize, 
 pub(crate) fn delay_over(line: &mut Line, samples: &mut [i32])
     requires { length samples.old ≡ line.old.channels }
     ensures frame { samples.new ≡ frame_leaving line.old samples.old }
-    ensures items { line.new.items ≡ pushed line.old samples.old }
-    ensures capacity { line.new.capacity ≡ line.old.capacity }
-    ensures channels { line.new.channels ≡ line.old.channels }
+    ensures line { line.new ≡ record line.old { items = pushed line.old samples.old } }
 {
     if !line.push_over(samples) {
         samples.fill(0);
@@ -218,9 +215,8 @@ fn exchange_evenly(
     requires free { length came.old ≡ length samples.old }
     ensures kept { result ≡ false → (line.new ≡ line.old) × (samples.new ≡ samples.old) }
     ensures frames { result ≡ true → MakesBlock delay_taps delays.now line.old.items count samples.old samples.new }
-    ensures line { result ≡ true → line.new.items ≡ pushed_all line.old (pieces (length delays.now) count samples.old) }
-    ensures line_capacity { line.new.capacity ≡ line.old.capacity }
-    ensures line_channels { line.new.channels ≡ line.old.channels }
+    ensures line { let coming = pieces (length delays.now) count samples.old in
+        result ≡ true → line.new ≡ record line.old { items = pushed_all line.old coming } }
     ensures len { length samples.new ≡ length samples.old }
 {
     let _held = line.len();
@@ -287,9 +283,8 @@ fn delay_pieces(
     requires output { count * length delays.now ≤ length output.old }
     ensures frames { MakesBlock delay_taps delays.now line.old.items count input.now output.new }
     ensures rest_unchanged { drop (count * length delays.now) output.new ≡ drop (count * length delays.now) output.old }
-    ensures line { line.new.items ≡ pushed_all line.old (pieces (length delays.now) count input.now) }
-    ensures line_capacity { line.new.capacity ≡ line.old.capacity }
-    ensures line_channels { line.new.channels ≡ line.old.channels }
+    ensures line { let coming = pieces (length delays.now) count input.now in
+        line.new ≡ record line.old { items = pushed_all line.old coming } }
 {
     let channels = delays.len();
     let _held = line.len();
@@ -320,9 +315,8 @@ impl Delays {
         requires samples { length samples.old ≡ count * length self.now }
         ensures frames { MakesBlock delay_taps self.now line.old.items count samples.old samples.new }
         ensures clips { CountsClips delay_taps self.now line.old.items count samples.old result }
-        ensures line { line.new.items ≡ pushed_all line.old (pieces (length self.now) count samples.old) }
-        ensures line_capacity { line.new.capacity ≡ line.old.capacity }
-        ensures line_channels { line.new.channels ≡ line.old.channels }
+        ensures line { let coming = pieces (length self.now) count samples.old in
+            line.new ≡ record line.old { items = pushed_all line.old coming } }
     {
         let mut places = [0; PLACES];
         let came = &mut places[..samples.len()];

@@ -371,9 +371,7 @@ impl PreparedEcho {
         ensures frame { samples.new ≡ (echoed_frame self.now (history_after line.old.items samples.old)).samples }
         ensures clips { result ≡ (echoed_frame self.now (history_after line.old.items samples.old)).clips }
         ensures bound { result ≤ 16 }
-        ensures items { line.new.items ≡ pushed line.old samples.old }
-        ensures line_capacity { line.new.capacity ≡ line.old.capacity }
-        ensures line_channels { line.new.channels ≡ line.old.channels }
+        ensures line { line.new ≡ record line.old { items = pushed line.old samples.old } }
     {
         let _held = line.len();
         copy_samples(samples, came);
@@ -393,9 +391,7 @@ impl PreparedEcho {
         ensures frame { samples.new ≡ (echoed_frame self.now (history_after line.old.items samples.old)).samples }
         ensures clips { result ≡ (echoed_frame self.now (history_after line.old.items samples.old)).clips }
         ensures bound { result ≤ 16 }
-        ensures items { line.new.items ≡ pushed line.old samples.old }
-        ensures line_capacity { line.new.capacity ≡ line.old.capacity }
-        ensures line_channels { line.new.channels ≡ line.old.channels }
+        ensures line { line.new ≡ record line.old { items = pushed line.old samples.old } }
     {
         match samples.len() {
             1 => self.one_through(small, line, samples, &mut [0]),
@@ -416,9 +412,7 @@ impl PreparedEcho {
         ensures frame { samples.new ≡ (echoed_frame self.now (history_after line.old.items samples.old)).samples }
         ensures clips { result ≡ (echoed_frame self.now (history_after line.old.items samples.old)).clips }
         ensures bound { result ≤ 16 }
-        ensures items { line.new.items ≡ pushed line.old samples.old }
-        ensures line_capacity { line.new.capacity ≡ line.old.capacity }
-        ensures line_channels { line.new.channels ≡ line.old.channels }
+        ensures line { line.new ≡ record line.old { items = pushed line.old samples.old } }
     {
         let mut places = [0; 16];
         let came = &mut places[..samples.len()];
@@ -445,9 +439,8 @@ impl PreparedEcho {
         requires samples { length samples.old ≡ count * self.now.channels }
         ensures frames { MakesBlock echo_taps self.now line.old.items count samples.old samples.new }
         ensures clips { CountsClips echo_taps self.now line.old.items count samples.old result }
-        ensures line { line.new.items ≡ pushed_all line.old (pieces self.now.channels count samples.old) }
-        ensures line_capacity { line.new.capacity ≡ line.old.capacity }
-        ensures line_channels { line.new.channels ≡ line.old.channels }
+        ensures line { let coming = pieces self.now.channels count samples.old in
+            line.new ≡ record line.old { items = pushed_all line.old coming } }
     {
         let _held = line.len();
         let mut places = [0; PLACES];
@@ -476,9 +469,8 @@ impl PreparedEcho {
         requires samples { length samples.old ≡ count * self.now.channels }
         ensures frames { MakesBlock echo_taps self.now line.old.items count samples.old samples.new }
         ensures clips { CountsClips echo_taps self.now line.old.items count samples.old result }
-        ensures line { line.new.items ≡ pushed_all line.old (pieces self.now.channels count samples.old) }
-        ensures line_capacity { line.new.capacity ≡ line.old.capacity }
-        ensures line_channels { line.new.channels ≡ line.old.channels }
+        ensures line { let coming = pieces self.now.channels count samples.old in
+            line.new ≡ record line.old { items = pushed_all line.old coming } }
     {
         let _held = line.len();
         let mut places = [0; PLACES];

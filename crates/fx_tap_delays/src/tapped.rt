@@ -69,9 +69,8 @@ pub trait TapsMany: Tapping {
         ensures frames { MakesBlock Self.taps self.now line.old.items count input.now output.new }
         ensures rest_unchanged { let n = count * Self.taps.channels self.now in drop n output.new ≡ drop n output.old }
         ensures clips { CountsClips Self.taps self.now line.old.items count input.now result }
-        ensures line { line.new.items ≡ pushed_all line.old (pieces (Self.taps.channels self.now) count input.now) }
-        ensures line_capacity { line.new.capacity ≡ line.old.capacity }
-        ensures line_channels { line.new.channels ≡ line.old.channels }
+        ensures line { let coming = pieces (Self.taps.channels self.now) count input.now in
+            line.new ≡ record line.old { items = pushed_all line.old coming } }
     {
         tap_by_frames(self, line, input, output, count)
     }
@@ -86,9 +85,7 @@ pub trait TapsMany: Tapping {
         ensures frame { samples.new ≡ (Self.taps.made self.now (history_after line.old.items samples.old)).samples }
         ensures clips { result ≡ (Self.taps.made self.now (history_after line.old.items samples.old)).clips }
         ensures bound { result ≤ Self.taps.max_clips self.now }
-        ensures items { line.new.items ≡ pushed line.old samples.old }
-        ensures line_capacity { line.new.capacity ≡ line.old.capacity }
-        ensures line_channels { line.new.channels ≡ line.old.channels }
+        ensures line { line.new ≡ record line.old { items = pushed line.old samples.old } }
     {
         tap_and_push(self, line, samples)
     }
@@ -102,9 +99,8 @@ pub trait TapsMany: Tapping {
         requires samples { length samples.old ≡ count * Self.taps.channels self.now }
         ensures frames { MakesBlock Self.taps self.now line.old.items count samples.old samples.new }
         ensures clips { CountsClips Self.taps self.now line.old.items count samples.old result }
-        ensures line { line.new.items ≡ pushed_all line.old (pieces (Self.taps.channels self.now) count samples.old) }
-        ensures line_capacity { line.new.capacity ≡ line.old.capacity }
-        ensures line_channels { line.new.channels ≡ line.old.channels }
+        ensures line { let coming = pieces (Self.taps.channels self.now) count samples.old in
+            line.new ≡ record line.old { items = pushed_all line.old coming } }
     {
         tap_over_by_frames(self, line, samples, count)
     }
@@ -126,9 +122,7 @@ pub(crate) fn sample(line: &Line, frame: &[i32], delay: usize, channel: usize) -
 fn push_samples(line: &mut Line, samples: &[i32])
     requires channels { length samples.now ≡ line.old.channels }
     requires some { IsChannelCount (length samples.now) }
-    ensures items { line.new.items ≡ pushed line.old samples.now }
-    ensures capacity { line.new.capacity ≡ line.old.capacity }
-    ensures channels { line.new.channels ≡ line.old.channels }
+    ensures { line.new ≡ record line.old { items = pushed line.old samples.now } }
 {
     let frame = match samples.len() {
         1 => Frame::one(samples[0]),
@@ -153,9 +147,7 @@ fn tap_through<T: Tapping>(
     ensures frame { samples.new ≡ (T.taps.made tapping.now (history_after line.old.items samples.old)).samples }
     ensures clips { result ≡ (T.taps.made tapping.now (history_after line.old.items samples.old)).clips }
     ensures bound { result ≤ T.taps.max_clips tapping.now }
-    ensures items { line.new.items ≡ pushed line.old samples.old }
-    ensures line_capacity { line.new.capacity ≡ line.old.capacity }
-    ensures line_channels { line.new.channels ≡ line.old.channels }
+    ensures line { line.new ≡ record line.old { items = pushed line.old samples.old } }
 {
     let clips = tapping.tap_into(line, samples, made);
     line.push_over(samples);
@@ -173,9 +165,7 @@ pub fn tap_and_push<T: Tapping>(tapping: &T, line: &mut Line, samples: &mut [i32
     ensures frame { samples.new ≡ (T.taps.made tapping.now (history_after line.old.items samples.old)).samples }
     ensures clips { result ≡ (T.taps.made tapping.now (history_after line.old.items samples.old)).clips }
     ensures bound { result ≤ T.taps.max_clips tapping.now }
-    ensures items { line.new.items ≡ pushed line.old samples.old }
-    ensures line_capacity { line.new.capacity ≡ line.old.capacity }
-    ensures line_channels { line.new.channels ≡ line.old.channels }
+    ensures line { line.new ≡ record line.old { items = pushed line.old samples.old } }
 {
     match samples.len() {
         1 => tap_through(tapping, line, samples, &mut [0]),
@@ -194,9 +184,7 @@ fn tap_through_places<T: Tapping>(tapping: &T, line: &mut Line, samples: &mut [i
     ensures frame { samples.new ≡ (T.taps.made tapping.now (history_after line.old.items samples.old)).samples }
     ensures clips { result ≡ (T.taps.made tapping.now (history_after line.old.items samples.old)).clips }
     ensures bound { result ≤ T.taps.max_clips tapping.now }
-    ensures items { line.new.items ≡ pushed line.old samples.old }
-    ensures line_capacity { line.new.capacity ≡ line.old.capacity }
-    ensures line_channels { line.new.channels ≡ line.old.channels }
+    ensures line { line.new ≡ record line.old { items = pushed line.old samples.old } }
 {
     let mut places = [0; 16];
     let came = &mut places[..samples.len()];
@@ -218,9 +206,8 @@ pub(crate) fn tap_by_frames<T: Tapping>(
     ensures frames { MakesBlock T.taps tapping.now line.old.items count input.now output.new }
     ensures rest_unchanged { let n = count * T.taps.channels tapping.now in drop n output.new ≡ drop n output.old }
     ensures clips { CountsClips T.taps tapping.now line.old.items count input.now result }
-    ensures line { line.new.items ≡ pushed_all line.old (pieces (T.taps.channels tapping.now) count input.now) }
-    ensures line_capacity { line.new.capacity ≡ line.old.capacity }
-    ensures line_channels { line.new.channels ≡ line.old.channels }
+    ensures line { let coming = pieces (T.taps.channels tapping.now) count input.now in
+        line.new ≡ record line.old { items = pushed_all line.old coming } }
 {
     let channels = tapping.channels();
     let _held = line.len();
@@ -247,9 +234,8 @@ pub(crate) fn tap_over_by_frames<T: Tapping>(
     requires samples { length samples.old ≡ count * T.taps.channels tapping.now }
     ensures frames { MakesBlock T.taps tapping.now line.old.items count samples.old samples.new }
     ensures clips { CountsClips T.taps tapping.now line.old.items count samples.old result }
-    ensures line { line.new.items ≡ pushed_all line.old (pieces (T.taps.channels tapping.now) count samples.old) }
-    ensures line_capacity { line.new.capacity ≡ line.old.capacity }
-    ensures line_channels { line.new.channels ≡ line.old.channels }
+    ensures line { let coming = pieces (T.taps.channels tapping.now) count samples.old in
+        line.new ≡ record line.old { items = pushed_all line.old coming } }
 {
     let channels = tapping.channels();
     let _held = line.len();
@@ -270,9 +256,8 @@ fn tap_groups<T: TapsMany>(tapping: &T, line: &mut Line, samples: &mut [i32], co
     requires samples { length samples.old ≡ count * T.taps.channels tapping.now }
     ensures frames { MakesBlock T.taps tapping.now line.old.items count samples.old samples.new }
     ensures clips { CountsClips T.taps tapping.now line.old.items count samples.old result }
-    ensures line { line.new.items ≡ pushed_all line.old (pieces (T.taps.channels tapping.now) count samples.old) }
-    ensures line_capacity { line.new.capacity ≡ line.old.capacity }
-    ensures line_channels { line.new.channels ≡ line.old.channels }
+    ensures line { let coming = pieces (T.taps.channels tapping.now) count samples.old in
+        line.new ≡ record line.old { items = pushed_all line.old coming } }
 {
     // A single group, as in most chains, needs no division.
     if samples.len() <= SAMPLES_OF_GROUP {

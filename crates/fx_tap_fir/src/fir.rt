@@ -376,9 +376,8 @@ fn filter_frames(
     ensures rest_unchanged { drop (count * channels) output.new ≡ drop (count * channels) output.old }
     ensures clips { result ≡ clips_in_block fir_taps (fir_with channels (reverse kernel.now)) line.old.items count input.now }
     ensures bound { result ≤ 16 * count }
-    ensures line { line.new.items ≡ pushed_all line.old (pieces channels count input.now) }
-    ensures line_capacity { line.new.capacity ≡ line.old.capacity }
-    ensures line_channels { line.new.channels ≡ line.old.channels }
+    ensures line { line.new
+        ≡ record line.old { items = pushed_all line.old (pieces channels count input.now) } }
 {
     let maximum = kernel.max_at_once();
     let mut done = 0;
@@ -407,9 +406,7 @@ fn filter_and_push(kernel: &Kernel, line: &mut Line, channels: usize, samples: &
     ensures frame { samples.new ≡ (filtered_next (fir_with channels (reverse kernel.now)) line.old.items samples.old).samples }
     ensures clips { result ≡ (filtered_next (fir_with channels (reverse kernel.now)) line.old.items samples.old).clips }
     ensures bound { result ≤ 16 }
-    ensures items { line.new.items ≡ pushed line.old samples.old }
-    ensures line_capacity { line.new.capacity ≡ line.old.capacity }
-    ensures line_channels { line.new.channels ≡ line.old.channels }
+    ensures line { line.new ≡ record line.old { items = pushed line.old samples.old } }
 {
     let came = frame_at(samples, 0, channels);
     let held = line.len();
@@ -435,9 +432,8 @@ fn filter_by_frames(
     ensures frames { MakesBlock fir_taps (fir_with channels (reverse kernel.now)) line.old.items count samples.old samples.new }
     ensures clips { result ≡ clips_in_block fir_taps (fir_with channels (reverse kernel.now)) line.old.items count samples.old }
     ensures bound { result ≤ 16 * count }
-    ensures line { line.new.items ≡ pushed_all line.old (pieces channels count samples.old) }
-    ensures line_capacity { line.new.capacity ≡ line.old.capacity }
-    ensures line_channels { line.new.channels ≡ line.old.channels }
+    ensures line { line.new
+        ≡ record line.old { items = pushed_all line.old (pieces channels count samples.old) } }
 {
     let _held = line.len();
     let mut from = 0;
@@ -467,9 +463,8 @@ fn filter_group<const PLACES: usize, const SAMPLES: usize>(
     ensures frames { MakesBlock fir_taps (fir_with channels (reverse kernel.now)) line.old.items count samples.old samples.new }
     ensures clips { result ≡ clips_in_block fir_taps (fir_with channels (reverse kernel.now)) line.old.items count samples.old }
     ensures bound { result ≤ 16 * count }
-    ensures line { line.new.items ≡ pushed_all line.old (pieces channels count samples.old) }
-    ensures line_capacity { line.new.capacity ≡ line.old.capacity }
-    ensures line_channels { line.new.channels ≡ line.old.channels }
+    ensures line { line.new
+        ≡ record line.old { items = pushed_all line.old (pieces channels count samples.old) } }
 {
     let mut frames = [0; SAMPLES];
     let frames = &mut frames[..samples.len()];
@@ -499,9 +494,8 @@ fn filter_batch(
     ensures frames { MakesBlock fir_taps (fir_with channels (reverse kernel.now)) line.old.items count samples.old samples.new }
     ensures clips { result ≡ clips_in_block fir_taps (fir_with channels (reverse kernel.now)) line.old.items count samples.old }
     ensures bound { result ≤ 16 * count }
-    ensures line { line.new.items ≡ pushed_all line.old (pieces channels count samples.old) }
-    ensures line_capacity { line.new.capacity ≡ line.old.capacity }
-    ensures line_channels { line.new.channels ≡ line.old.channels }
+    ensures line { line.new
+        ≡ record line.old { items = pushed_all line.old (pieces channels count samples.old) } }
 {
     if line.len() < line.capacity() || samples.len() > SAMPLES_OF_GROUP {
         return filter_by_frames(kernel, line, channels, count, samples);

@@ -2,10 +2,10 @@ use Rattle.std.proofs.Common.{◌^◌, inl, inr, ◌≡◌, ◌+◌, ◌-◌, �
 use Rattle.std.proofs.lemmas.Nat.{mul-le}
 use Rattle.fx_fixed.specs.Extents.{largest}
 use Rattle.fx_frame_base.specs.Lists.{pieces}
-use Rattle.fx_frame_line.specs.Line.{pushed_all}
+use Rattle.fx_frame_line.specs.Line.{Frames, pushed_all}
 use Rattle.fx_tap_delays.specs.DelayState.{delay_taps}
 use Rattle.fx_tap_delays.specs.Near.{delays-near}
-use Rattle.fx_tap_delays.proofs.Groups.{group-end, group-put, group-read, group-rest, made-more}
+use Rattle.fx_tap_delays.proofs.Groups.{group-end, group-put, group-read, group-rest, made-more, same-line}
 use Rattle.fx_tap_delays.proofs.delay.delay_pieces.Goals as goal
 
 pub overflow_mul-from : goal.overflow_mul-from
@@ -55,9 +55,9 @@ pieces-preserved c =
     let ensured = rw width at c.delay_piece.ensures in
     let kept = rw width at c.delay_piece.auto.out in
     let pushes = rw width at c.push_frames.ensures.items in
-    let lined : line.channels ≡ ch = old.made.line_channels ∙ c.requires.channels in
+    let lined : line.channels ≡ ch = ap (λ (l : Frames ℤ). l.channels) old.made.line ∙ c.requires.channels in
     rw width
     record {
       within = within;
-      made = made-more delay_taps delays-near ds start line done (done + n) c.args.input.now c.args.output.now out (pieces ch n part) c.len-held.ensures.line.within long more old.made _ _ (pieces ch n made) (group-put ch done n c.args.count within out made free kept) (group-rest ch done n c.args.count within out made free kept c.args.output.now old.made.rest_unchanged) ensured (pushes ∙ ap (λ k. pushed_all line (pieces k n part)) lined) c.push_frames.ensures.capacity c.push_frames.ensures.channels;
+      made = made-more delay_taps delays-near ds start line done (done + n) c.args.input.now c.args.output.now out (pieces ch n part) c.len-held.ensures.line.within long more old.made _ _ (pieces ch n made) (group-put ch done n c.args.count within out made free kept) (group-rest ch done n c.args.count within out made free kept c.args.output.now old.made.rest_unchanged) ensured (same-line _ line _ (pushes ∙ ap (λ k. pushed_all line (pieces k n part)) lined) c.push_frames.ensures.capacity c.push_frames.ensures.channels);
     }

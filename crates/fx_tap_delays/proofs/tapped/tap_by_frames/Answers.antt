@@ -29,13 +29,13 @@ frames-preserved g c =
     let sides : length made ≡ size = search (rules, is_size, fits) in
     let rest : drop at out ≡ drop at c.args.output.now = rw (← old.at_is) at old.made.rest_unchanged in
     let ensured = rw (is_size, width) at c.tap_into-clips.ensures in
-    let pushes = rw (is_size, width) at c.push_samples.ensures.items in
+    let pushes = rw (is_size, width) at c.push_samples.ensures in
     let more = pieces-more size turn at input old.at_is in
     let one : (turn + 1) * size ≡ at + size = omega (arith, old.at_is, suc-mul turn size, add-one turn) in
     let bound16 : taps.max_clips m ≤ 16 = g.met.T.Tapping.clips_max m in
     rw (is_size, width)
     record {
       at_is = sym one;
-      made = made-more taps near m start line turn (turn + 1) input c.args.output.now out (x ∷ []) held long more old.made _ _ (made ∷ []) (frame-put size turn at out made old.at_is sides fits) (rw one (frame-rest size turn at out made old.at_is sides fits c.args.output.now rest)) (ap (λ y. y ∷ []) ensured.frame) pushes c.push_samples.ensures.capacity c.push_samples.ensures.channels;
+      made = made-more taps near m start line turn (turn + 1) input c.args.output.now out (x ∷ []) held long more old.made _ _ (made ∷ []) (frame-put size turn at out made old.at_is sides fits) (rw one (frame-rest size turn at out made old.at_is sides fits c.args.output.now rest)) (ap (λ y. y ∷ []) ensured.frame) pushes;
       clips = clips-more taps near m start line turn (turn + 1) input c.args.output.now out (x ∷ []) held long more old.made c.frames.clips c.tap_into-clips.result 1 refl old.clips (ensured.clips ∙ sym (add-zero _)) (omega (arith, c.tap_into-clips.ensures.bound)) (omega (arith, c.tap_into-clips.ensures.bound, bound16));
     }

@@ -31,7 +31,7 @@ groups-preserved g c =
     rw (is_ch, width)
     record {
       within = within;
-      made = made-more taps near m start line done (done + n) input input out ys held long more old.made _ _ (pieces ch n made) (group-put ch done n c.args.count within out made free kept) (group-rest ch done n c.args.count within out made free kept input old.made.rest_unchanged) ensured.frames ensured.line c.tap_frames-clips.ensures.line_capacity c.tap_frames-clips.ensures.line_channels;
+      made = made-more taps near m start line done (done + n) input input out ys held long more old.made _ _ (pieces ch n made) (group-put ch done n c.args.count within out made free kept) (group-rest ch done n c.args.count within out made free kept input old.made.rest_unchanged) ensured.frames ensured.line;
       clips = clips-more taps near m start line done (done + n) input input out ys held long more old.made c.groups.clips c.tap_frames-clips.result n refl old.clips ensured.clips.counted ensured.clips.bound ensured.clips.small;
     }
 

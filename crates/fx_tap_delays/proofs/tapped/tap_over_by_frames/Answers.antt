@@ -37,6 +37,6 @@ frames-preserved g c =
     rw (is_size, width)
     record {
       at_is = sym one;
-      made = made-more taps near m start line turn (turn + 1) input input out (x ∷ []) held long more old.made _ _ (made ∷ []) (frame-put size turn at out made old.at_is sides fits) (rw one (frame-rest size turn at out made old.at_is sides fits input rest)) (ap (λ y. y ∷ []) ensured.frame) ensured.items c.tap_and_push-clips.ensures.line_capacity c.tap_and_push-clips.ensures.line_channels;
+      made = made-more taps near m start line turn (turn + 1) input input out (x ∷ []) held long more old.made _ _ (made ∷ []) (frame-put size turn at out made old.at_is sides fits) (rw one (frame-rest size turn at out made old.at_is sides fits input rest)) (ap (λ y. y ∷ []) ensured.frame) ensured.line;
       clips = clips-more taps near m start line turn (turn + 1) input input out (x ∷ []) held long more old.made c.frames.clips c.tap_and_push-clips.result 1 refl old.clips (ensured.clips ∙ sym (add-zero _)) (omega (arith, c.tap_and_push-clips.ensures.bound)) (omega (arith, c.tap_and_push-clips.ensures.bound, bound16));
     }

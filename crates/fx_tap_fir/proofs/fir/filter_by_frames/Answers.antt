@@ -5,6 +5,7 @@ use Rattle.fx_frame_base.specs.Frame.{Samples}
 use Rattle.fx_frame_base.specs.Lists.{pieces}
 use Rattle.fx_frame_base.specs.Stage.{Given}
 use Rattle.fx_frame_base.proofs.Puts.{drop-put, pieces-more, pieces-put}
+use Rattle.fx_frame_line.specs.Line.{Frames, pushed}
 use Rattle.fx_tap_fir.specs.Fir.{FirArguments, filtered_frame}
 use Rattle.fx_tap_fir.specs.FirState.{fir_taps}
 use Rattle.fx_frame.specs.Tapped.{clips_after, frames_after, last_of}
@@ -40,11 +41,10 @@ frames-preserved c =
     ∙ ap (λ rest. take c.frames.from c.frames.samples ++ made ++ rest) (drop-drop size c.frames.from c.frames.samples ∙ ap (λ n. drop (c.frames.from + n) c.frames.samples) (sym sides)) in
     let more : pieces size (turn + 1) start ≡ xs ++ x ∷ [] = pieces-more size turn c.frames.from start old.at_is in
     let ensured = rw (width, old.rest_unchanged) at c.filter_and_push-clips.ensures in
-    let framed : made ≡ is_made.samples = ensured.frame ∙ ap (λ (l : List Samples). (filtered_frame r (l ++ x ∷ []) (length l)).samples) old.line in
-    let clipped : c.filter_and_push-clips.result ≡ is_made.clips = ensured.clips ∙ ap (λ (l : List Samples). (filtered_frame r (l ++ x ∷ []) (length l)).clips) old.line in
-    let pushed : c.filter_and_push-clips.new.line.items ≡ last_of free (items ++ (xs ++ x ∷ [])) =
-    ensured.items ∙ ap (λ n. drop (length (c.frames.line.items ++ x ∷ []) - n) (c.frames.line.items ++ x ∷ [])) old.line_capacity
-    ∙ ap (λ (l : List Samples). last_of free (l ++ x ∷ [])) old.line ∙ last-more free items xs x in
+    let framed : made ≡ is_made.samples = ensured.frame ∙ ap (λ (l : Frames ℤ). (filtered_frame r (l.items ++ x ∷ []) (length l.items)).samples) old.line in
+    let clipped : c.filter_and_push-clips.result ≡ is_made.clips = ensured.clips ∙ ap (λ (l : Frames ℤ). (filtered_frame r (l.items ++ x ∷ []) (length l.items)).clips) old.line in
+    let line : c.filter_and_push-clips.new.line ≡ record c.args.line.now { items = last_of free (items ++ (xs ++ x ∷ [])) } =
+    ensured.line ∙ ap (λ (l : Frames ℤ). record l { items = pushed l x }) old.line ∙ ap (λ fs. record c.args.line.now { items = fs }) (last-more free items xs x) in
     rw width
     record {
       at_is = omega (arith, old.at_is, suc-mul turn size, add-one turn);
@@ -57,8 +57,6 @@ frames-preserved c =
           ap (λ n. n + c.filter_and_push-clips.result) old.counted ∙ ap (λ n. clips_after fir_taps r items xs + n) clipped
           ∙ sym (ap (clips_after fir_taps r items) more ∙ clips-more fir_taps fir-near r free xs items x held long);
       bound = omega (arith, old.bound, c.filter_and_push-clips.ensures.bound, add-one turn);
-      line = pushed ∙ sym (ap (λ ys. last_of free (items ++ ys)) more);
-      within = omega (arith, ap length pushed, length-last free (items ++ (xs ++ x ∷ [])));
-      line_capacity = c.filter_and_push-clips.ensures.line_capacity ∙ old.line_capacity;
-      line_channels = c.filter_and_push-clips.ensures.line_channels ∙ old.line_channels;
+      line = line ∙ sym (ap (λ ys. record c.args.line.now { items = last_of free (items ++ ys) }) more);
+      within = omega (arith, ap (λ (l : Frames ℤ). length l.items) line, length-last free (items ++ (xs ++ x ∷ [])));
     }

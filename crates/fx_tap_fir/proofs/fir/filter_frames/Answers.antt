@@ -5,6 +5,7 @@ use Rattle.std.proofs.lemmas.List.{drop-drop, length-append, length-drop, length
 use Rattle.fx_frame_base.specs.Frame.{Samples}
 use Rattle.fx_frame_base.specs.Lists.{pieces}
 use Rattle.fx_frame_base.proofs.Puts.{pieces-split, drop-put, pieces-take}
+use Rattle.fx_frame_line.specs.Line.{Frames, pushed_block}
 use Rattle.fx_frame_line.proofs.RingLaws.{keep-twice}
 use Rattle.fx_tap_fir.specs.Fir.{FirArguments}
 use Rattle.fx_tap_fir.specs.FirState.{fir_taps}
@@ -57,15 +58,15 @@ pieces-preserved c =
     let out : List ℤ = c.filter_piece-clips.new.out in
     let rest : List ℤ = drop (done * size + piece * size - done * size) (drop (done * size) c.pieces.output) in
     let sides : length out ≡ piece * size = search (rules, width, fits) in
-    let now : List Samples = c.pieces.line.items in
     let framed : pieces size piece out ≡ frames_after fir_taps r (last_of free (items ++ xs)) ys =
-    c.filter_piece-clips.ensures.frames ∙ ap (λ (l : List Samples). frames_after fir_taps r l (pieces size piece part)) old.line ∙ ap (frames_after fir_taps r (last_of free (items ++ xs))) seen in
+    c.filter_piece-clips.ensures.frames ∙ ap (λ (l : Frames ℤ). frames_after fir_taps r l.items (pieces size piece part)) old.line ∙ ap (frames_after fir_taps r (last_of free (items ++ xs))) seen in
     let clipped : c.filter_piece-clips.result ≡ clips_after fir_taps r (last_of free (items ++ xs)) ys =
-    c.filter_piece-clips.ensures.clips ∙ ap (λ (l : List Samples). clips_after fir_taps r l (pieces size piece part)) old.line ∙ ap (clips_after fir_taps r (last_of free (items ++ xs))) seen in
-    let wide : c.pieces.line.channels ≡ size = old.line_channels ∙ sym c.requires.channels in
-    let pushed : c.push_frames.new.self.items ≡ last_of free (items ++ (xs ++ ys)) =
-    c.push_frames.ensures.items ∙ ap (λ n. last_of c.pieces.line.capacity (now ++ pieces n piece part)) wide ∙ ap (λ fs. last_of c.pieces.line.capacity (now ++ fs)) seen
-    ∙ ap (λ k. last_of k (now ++ ys)) old.line_capacity ∙ ap (λ (l : List Samples). last_of free (l ++ ys)) old.line ∙ keep-twice free (items ++ xs) ys ∙ ap (last_of free) (append_assoc items xs ys) in
+    c.filter_piece-clips.ensures.clips ∙ ap (λ (l : Frames ℤ). clips_after fir_taps r l.items (pieces size piece part)) old.line ∙ ap (clips_after fir_taps r (last_of free (items ++ xs))) seen in
+    let after : List Samples → Frames ℤ = λ fs. record c.args.line.now { items = last_of free (items ++ fs) } in
+    let pushed : c.push_frames.new.self ≡ record c.pieces.line { items = pushed_block c.pieces.line piece part } = search (rules, c.push_frames.ensures) in
+    let line : c.push_frames.new.self ≡ after (xs ++ ys) =
+    pushed ∙ ap (λ (l : Frames ℤ). record l { items = pushed_block l piece part }) old.line
+    ∙ ap (λ fs. record c.args.line.now { items = fs }) (ap (λ fs. last_of free (last_of free (items ++ xs) ++ fs)) (rw (← c.requires.channels) seen) ∙ keep-twice free (items ++ xs) ys ∙ ap (last_of free) (append_assoc items xs ys)) in
     let new : List ℤ = take (done * size) c.pieces.output ++ (out ++ rest) in
     let joined = pieces-joined size done piece c.pieces.output out rest new (omega (arith, fits)) sides refl in
     let put : new ≡ take (done * size) c.pieces.output ++ out ++ drop (done * size + length out) c.pieces.output =
@@ -79,10 +80,8 @@ pieces-preserved c =
       counted = ap (λ n. n + c.filter_piece-clips.result) old.counted ∙ ap (λ n. clips_after fir_taps r items xs + n) clipped
           ∙ sym (ap (clips_after fir_taps r items) both ∙ clips-joined fir_taps fir-near r free xs ys items held long);
       bound = omega (arith, old.bound, c.filter_piece-clips.ensures.bound);
-      line = pushed ∙ sym (ap (λ ps. last_of free (items ++ ps)) both);
-      full = omega (arith, ap length pushed, length-last free (items ++ (xs ++ ys)), length-append items (xs ++ ys), c.requires.full);
-      line_capacity = c.push_frames.ensures.capacity ∙ old.line_capacity;
-      line_channels = c.push_frames.ensures.channels ∙ old.line_channels;
+      line = line ∙ sym (ap after both);
+      full = omega (arith, ap (λ (l : Frames ℤ). length l.items) line, length-last free (items ++ (xs ++ ys)), length-append items (xs ++ ys), c.requires.full);
     }
 
 pub overflow_mul-to : goal.overflow_mul-to

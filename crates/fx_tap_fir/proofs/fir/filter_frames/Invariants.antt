@@ -1,8 +1,9 @@
-use Rattle.std.proofs.Common.{◌≡◌, ◌≤◌, ◌-◌, ◌*◌, ◌++◌, drop, length, reverse}
+use Rattle.std.proofs.Common.{◌≡◌, ◌≤◌, ◌-◌, ◌*◌, drop, length, reverse}
 use Rattle.fx_frame_base.specs.Lists.{pieces}
+use Rattle.fx_frame_line.specs.Line.{pushed_all}
 use Rattle.fx_tap_fir.specs.Fir.{FirArguments}
 use Rattle.fx_tap_fir.specs.FirState.{fir_taps}
-use Rattle.fx_frame.specs.Tapped.{clips_after, frames_after, last_of}
+use Rattle.fx_frame.specs.Tapped.{clips_after, frames_after}
 use Rattle.fx_tap_fir.proofs.fir.filter_frames.Given as goal
 
 -- the pieces so far
@@ -15,10 +16,8 @@ invariant-pieces l =
       rest_unchanged : drop (l.done * l.channels) l.output ≡ drop (l.done * l.channels) l.fn.output;
       counted : l.clips ≡ clips_after fir_taps r l.fn.line.items (pieces l.channels l.done l.input);
       bound : l.clips ≤ 16 * l.done;
-      line : l.line.items ≡ last_of l.fn.line.capacity (l.fn.line.items ++ pieces l.channels l.done l.input);
+      line : l.line ≡ record l.fn.line { items = pushed_all l.fn.line (pieces l.channels l.done l.input) };
       full : length l.line.items ≡ l.fn.line.capacity;
-      line_capacity : l.line.capacity ≡ l.fn.line.capacity;
-      line_channels : l.line.channels ≡ l.fn.line.channels;
     }
 
 abbrev pub decreases-pieces : goal.decreases-pieces

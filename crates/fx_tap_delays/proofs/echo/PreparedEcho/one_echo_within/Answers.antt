@@ -16,6 +16,4 @@ returns-then-exchange_frames g c =
         small = first_of (search rules, grind (arith, common_steps));
       };
       line = first_of (search rules, grind (arith, common_steps));
-      line_capacity = first_of (search rules, grind (arith, common_steps));
-      line_channels = first_of (search rules, grind (arith, common_steps));
     }

@@ -31,6 +31,4 @@ returns g c =
         small = first_of (search rules, grind (arith, common_steps));
       };
       line = first_of (search rules, grind (arith, common_steps));
-      line_capacity = first_of (search rules, grind (arith, common_steps));
-      line_channels = first_of (search rules, grind (arith, common_steps));
     }

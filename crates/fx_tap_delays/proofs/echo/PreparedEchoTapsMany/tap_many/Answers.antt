@@ -4,11 +4,11 @@ use Rattle.std.proofs.lemmas.Grind.{common_steps}
 use Rattle.fx_fixed.specs.Extents.{largest}
 use Rattle.fx_tap_delays.specs.DelayExtents.{tap_delay}
 use Rattle.fx_frame_base.specs.Lists.{pieces}
-use Rattle.fx_frame_line.specs.Line.{pushed_all}
+use Rattle.fx_frame_line.specs.Line.{Frames, pushed_all}
 use Rattle.fx_tap_delays.specs.Echo.{EchoArguments, echo_with}
 use Rattle.fx_tap_delays.specs.EchoState.{echo_taps}
 use Rattle.fx_tap_delays.specs.Near.{taps-near}
-use Rattle.fx_tap_delays.proofs.Groups.{counted-more, group-end, group-put, group-read, group-rest, made-more}
+use Rattle.fx_tap_delays.proofs.Groups.{counted-more, group-end, group-put, group-read, group-rest, made-more, same-line}
 use Rattle.fx_tap_delays.proofs.echo.PreparedEchoTapsMany.tap_many.Goals as goal
 
 pub slice_bounds-frames-end : goal.slice_bounds-frames-end
@@ -42,13 +42,13 @@ pieces-preserved c =
     let ensured = rw (← c.self.view_is, width) at c.tap_piece-clips.ensures in
     let kept = rw width at c.tap_piece-clips.auto.out in
     let pushes = rw width at c.push_frames.ensures.items in
-    let lined : line.channels ≡ ch = old.made.line_channels ∙ asked.line.channels in
+    let lined : line.channels ≡ ch = ap (λ (l : Frames ℤ). l.channels) old.made.line ∙ asked.line.channels in
     let held = c.len-held.ensures.line.within in
     let bound : n * ch ≤ n * 16 = mul-le-mul_left n c.self.invariant.0.channels.1 in
     rw (← c.self.view_is, width)
     record {
       within = within;
-      made = made-more echo_taps taps-near a start line done (done + n) c.args.input.now c.args.output.now out (pieces ch n part) held long more old.made _ _ (pieces ch n made) (group-put ch done n c.args.count within out made free kept) (group-rest ch done n c.args.count within out made free kept c.args.output.now old.made.rest_unchanged) ensured.frames (pushes ∙ ap (λ k. pushed_all line (pieces k n part)) lined) c.push_frames.ensures.capacity c.push_frames.ensures.channels;
+      made = made-more echo_taps taps-near a start line done (done + n) c.args.input.now c.args.output.now out (pieces ch n part) held long more old.made _ _ (pieces ch n made) (group-put ch done n c.args.count within out made free kept) (group-rest ch done n c.args.count within out made free kept c.args.output.now old.made.rest_unchanged) ensured.frames (same-line _ line _ (pushes ∙ ap (λ k. pushed_all line (pieces k n part)) lined) c.push_frames.ensures.capacity c.push_frames.ensures.channels);
       counted = counted-more echo_taps taps-near a start line done (done + n) c.args.input.now c.args.output.now out (pieces ch n part) held long more old.made c.pieces.clips c.tap_piece-clips.result old.counted ensured.clips;
       bound = omega (arith, old.bound, ensured.bound, bound);
     }

@@ -1,8 +1,9 @@
-use Rattle.std.proofs.Common.{rules, ◌≡◌, ◌+◌, ◌-◌, ◌*◌, ◌^◌, ◌≤◌, ℕ, false, length, refl, arith, ◌<◌, None}
+use Rattle.std.proofs.Common.{rules, ◌≡◌, ◌+◌, ◌-◌, ◌*◌, ◌^◌, ◌≤◌, ap, ℕ, ℤ, false, length, refl, arith, ◌<◌, None}
 use Rattle.std.proofs.Math.Nat.{mul-le-mul}
 use Rattle.fx_frame_base.proofs.Pieces.{length-pieces}
 use Rattle.fx_frame_base.proofs.Flags.{none-of}
 use Rattle.fx_frame_base.proofs.Capacities.{free-grows}
+use Rattle.fx_frame_line.specs.Line.{Frames}
 use Rattle.fx_frame.proofs.TapBlocks.{IsTapState-block, block-fed}
 use Rattle.fx_frame.proofs.WholeFrames.{both-have, no-more}
 use Rattle.fx_tap_delays.proofs.tapped.TappedFeeds.feed.Given as given
@@ -26,7 +27,7 @@ invariant_of-self g c =
     let (read, free, limit) = frames g (goal.at.invariant_of-self g c).After-min-count in
     let ensured = c.tap_many-clips.ensures in
     rw c.pass.ensures
-    (IsTapState-block g.T.Tapping.taps _ c.tap_many-clips.new.line c.min-count.result c.tap_many-clips.result _ c.self-2.invariant none (search rules) limit (length-pieces (g.T.Tapping.taps.channels s.arguments) c.min-count.result c.args.input.now) c.len-held.ensures.line ensured.line ensured.line_capacity ensured.line_channels ensured.clips.bound)
+    (IsTapState-block g.T.Tapping.taps _ c.tap_many-clips.new.line c.min-count.result c.tap_many-clips.result _ c.self-2.invariant none (search rules) limit (length-pieces (g.T.Tapping.taps.channels s.arguments) c.min-count.result c.args.input.now) c.len-held.ensures.line (ap (λ (l : Frames ℤ). l.items) ensured.line) (ap (λ (l : Frames ℤ). l.capacity) ensured.line) (ap (λ (l : Frames ℤ). l.channels) ensured.line) ensured.clips.bound)
 
 pub feed_by_frames-requires : goal.feed_by_frames-requires
 feed_by_frames-requires g c = record { channels = c.requires.channels; below_limit = c.requires.below_limit }
@@ -76,7 +77,7 @@ returns g c =
     let ensured = c.tap_many-clips.ensures in
     rw (← c.self-2.view_is, c.pass.ensures)
     record {
-      fed = block-fed g.T.Tapping.taps g.met.T.Tapping.near s.arguments _ c.tap_many-clips.new.line c.min-count.result c.tap_many-clips.result c.args.input.now c.tap_many-clips.new.output refl is none over out ensured.frames ensured.clips.counted ensured.line ensured.line_capacity ensured.line_channels;
+      fed = block-fed g.T.Tapping.taps g.met.T.Tapping.near s.arguments _ c.tap_many-clips.new.line c.min-count.result c.tap_many-clips.result c.args.input.now c.tap_many-clips.new.output refl is none over out ensured.frames ensured.clips.counted (ap (λ (l : Frames ℤ). l.items) ensured.line) (ap (λ (l : Frames ℤ). l.capacity) ensured.line) (ap (λ (l : Frames ℤ). l.channels) ensured.line);
       read = read;
       written = out;
       rest_unchanged = ensured.rest_unchanged;

@@ -1,6 +1,7 @@
-use Rattle.std.proofs.Common.{◌+◌, ◌≡◌, ◌*◌, ◌^◌, ◌≤◌, false, length, refl, arith, append-nil, None}
+use Rattle.std.proofs.Common.{◌+◌, ◌≡◌, ◌*◌, ◌^◌, ◌≤◌, ap, ℤ, false, length, refl, arith, append-nil, None}
 use Rattle.std.proofs.Math.Nat.{mul-le-mul}
 use Rattle.fx_frame_base.proofs.Pieces.{length-pieces}
+use Rattle.fx_frame_line.specs.Line.{Frames}
 use Rattle.fx_frame.proofs.DryLaws.{dry-pending}
 use Rattle.fx_frame.proofs.TapBlocks.{IsTapState-block, block-through}
 use Rattle.fx_tap_delays.proofs.tapped.TappedFeeds.pass_frames.Given as given
@@ -41,7 +42,7 @@ invariant_of-self g c =
     let (none, over, limit, even) = ready g (goal.at.invariant_of-self g c).After-tap_groups-clips in
     let delivered = c.tap_groups-clips.ensures in
     rw c.pass.ensures
-    (IsTapState-block g.T.Tapping.taps _ c.tap_groups-clips.new.line c.args.count c.tap_groups-clips.result _ c.self.invariant none over limit (length-pieces (g.T.Tapping.taps.channels c.self.inside.arguments) c.args.count c.args.samples.now) c.len-held.ensures.line delivered.line delivered.line_capacity delivered.line_channels delivered.clips.bound)
+    (IsTapState-block g.T.Tapping.taps _ c.tap_groups-clips.new.line c.args.count c.tap_groups-clips.result _ c.self.invariant none over limit (length-pieces (g.T.Tapping.taps.channels c.self.inside.arguments) c.args.count c.args.samples.now) c.len-held.ensures.line (ap (λ (l : Frames ℤ). l.items) delivered.line) (ap (λ (l : Frames ℤ). l.capacity) delivered.line) (ap (λ (l : Frames ℤ). l.channels) delivered.line) delivered.clips.bound)
 
 pub returns-clause-through : goal.returns-clause-through
 returns-clause-through g c =
@@ -51,7 +52,7 @@ returns-clause-through g c =
     let out : c.args.count * g.T.Tapping.taps.channels s.arguments ≤ length c.tap_groups-clips.new.samples = omega (arith, size, c.tap_groups-clips.auto.samples) in
     let delivered = c.tap_groups-clips.ensures in
     rw (← c.self.view_is, c.pass.ensures)
-    (block-through g.T.Tapping.taps g.met.T.Tapping.near s.arguments _ c.tap_groups-clips.new.line c.args.count c.tap_groups-clips.result c.args.samples.now c.tap_groups-clips.new.samples refl c.self.invariant none over out delivered.frames delivered.clips.counted delivered.line delivered.line_capacity delivered.line_channels)
+    (block-through g.T.Tapping.taps g.met.T.Tapping.near s.arguments _ c.tap_groups-clips.new.line c.args.count c.tap_groups-clips.result c.args.samples.now c.tap_groups-clips.new.samples refl c.self.invariant none over out delivered.frames delivered.clips.counted (ap (λ (l : Frames ℤ). l.items) delivered.line) (ap (λ (l : Frames ℤ). l.capacity) delivered.line) (ap (λ (l : Frames ℤ). l.channels) delivered.line))
 
 pub returns-clause-lined : goal.returns-clause-lined
 returns-clause-lined g c =
@@ -59,4 +60,4 @@ returns-clause-lined g c =
     let none : s.core.pending ≡ None = dry-pending s.core.pending s.tail (rw (← c.self.view_is) at c.requires.dry) in
     let within = c.len-held.ensures.line.within in
     let delivered = c.tap_groups-clips.ensures in
-    rw (c.pass.ensures, none) (simp append-nil (omega (arith, within, delivered.line_capacity, c.self.invariant.capacity)))
+    rw (c.pass.ensures, none) (simp append-nil (omega (arith, within, ap (λ (l : Frames ℤ). l.capacity) delivered.line, c.self.invariant.capacity)))

@@ -1,4 +1,5 @@
-use Rattle.std.proofs.Common.{◌≡◌, ◌+◌, ◌*◌, ◌≤◌, ◌∙◌, ◌^◌, [], ◌∷◌, false, refl, arith, None}
+use Rattle.std.proofs.Common.{◌≡◌, ◌+◌, ◌*◌, ◌≤◌, ◌∙◌, ◌^◌, ap, ℤ, [], ◌∷◌, false, refl, arith, None}
+use Rattle.fx_frame_line.specs.Line.{Frames}
 use Rattle.fx_frame.proofs.TapBlocks.{IsTapState-block, frame-passed}
 use Rattle.fx_frame.proofs.DryLaws.{dry-pending}
 use Rattle.fx_tap_delays.proofs.tapped.TappedFeeds.pass_samples.Goals as goal
@@ -15,7 +16,7 @@ invariant_of-self g c =
     let little : c.tap_over-clips.result ≤ 1 * taps.max_clips s.arguments = omega (arith, c.tap_over-clips.ensures.bound) in
     let delivered = c.tap_over-clips.ensures in
     rw c.pass.ensures
-    (IsTapState-block taps _ c.tap_over-clips.new.line 1 c.tap_over-clips.result (c.args.samples.now ∷ []) is none over bound refl c.len-held.ensures.line delivered.items delivered.line_capacity delivered.line_channels little)
+    (IsTapState-block taps _ c.tap_over-clips.new.line 1 c.tap_over-clips.result (c.args.samples.now ∷ []) is none over bound refl c.len-held.ensures.line (ap (λ (l : Frames ℤ). l.items) delivered.line) (ap (λ (l : Frames ℤ). l.capacity) delivered.line) (ap (λ (l : Frames ℤ). l.channels) delivered.line) little)
 
 pub returns-clause-passed : goal.returns-clause-passed
 returns-clause-passed g c =
@@ -26,4 +27,4 @@ returns-clause-passed g c =
     let delivered = c.tap_over-clips.ensures in
     rw (← c.self.view_is, c.pass.ensures)
     (frame-passed g.T.Tapping.taps g.met.T.Tapping.near s.arguments _ c.tap_over-clips.new.line c.args.samples.now c.tap_over-clips.new.samples c.tap_over-clips.result
-    refl c.self.invariant none over (c.tap_over-clips.auto.samples ∙ width) delivered.frame delivered.clips delivered.items delivered.line_capacity delivered.line_channels)
+    refl c.self.invariant none over (c.tap_over-clips.auto.samples ∙ width) delivered.frame delivered.clips (ap (λ (l : Frames ℤ). l.items) delivered.line) (ap (λ (l : Frames ℤ). l.capacity) delivered.line) (ap (λ (l : Frames ℤ). l.channels) delivered.line))

@@ -1,10 +1,11 @@
-use Rattle.std.proofs.Common.{rules, ◌≡◌, ◌+◌, ◌-◌, ◌≤◌, ℕ, false, length, refl, reverse, arith, None}
+use Rattle.std.proofs.Common.{rules, ◌≡◌, ◌+◌, ◌-◌, ◌≤◌, ap, ℕ, ℤ, false, length, refl, reverse, arith, None}
 use Rattle.std.proofs.lemmas.List.{length-reverse}
 use Rattle.fx_frame_base.specs.Lists.{pieces}
 use Rattle.fx_frame_base.proofs.Pieces.{length-pieces}
 use Rattle.fx_tap_fir.specs.Fir.{centre}
 use Rattle.fx_tap_fir.specs.FirState.{FirState, IsFir}
 use Rattle.fx_frame_base.proofs.Flags.{none-of}
+use Rattle.fx_frame_line.specs.Line.{Frames}
 use Rattle.fx_frame_base.proofs.Capacities.{free-grows}
 use Rattle.fx_tap_fir.proofs.FirBlocks.{IsFir-block, block-fed}
 use Rattle.fx_frame.proofs.WholeFrames.{both-have, no-more}
@@ -35,7 +36,7 @@ invariant_of-self c =
     let free = c.self-2.invariant.capacity in
     rw c.pass.ensures
     (IsFir-block (record { channels = s.channels; backwards = s.kernel; line = s.line; core = s.core; tail = s.tail }) c.filter_frames-clipped.new.line c.min-count.result c.filter_frames-clipped.result
-    (pieces s.channels c.min-count.result c.args.input.now) c.self-2.invariant none over limit (length-pieces s.channels c.min-count.result c.args.input.now) (λ some. omega (arith, full, free)) c.len-held.ensures.line ensured.line ensured.line_capacity ensured.line_channels ensured.bound)
+    (pieces s.channels c.min-count.result c.args.input.now) c.self-2.invariant none over limit (length-pieces s.channels c.min-count.result c.args.input.now) (λ some. omega (arith, full, free)) c.len-held.ensures.line (ap (λ (l : Frames ℤ). l.items) ensured.line) (ap (λ (l : Frames ℤ). l.capacity) ensured.line) (ap (λ (l : Frames ℤ). l.channels) ensured.line) ensured.bound)
 
 pub returns-clause-fed : goal.returns-clause-fed
 returns-clause-fed c =
@@ -53,7 +54,7 @@ returns-clause-fed c =
     let ensured = c.filter_frames-clipped.ensures in
     rw (← c.self-2.view_is, c.pass.ensures)
     (block-fed (record { channels = s.channels; backwards = s.kernel; line = s.line; core = s.core; tail = s.tail }) c.filter_frames-clipped.new.line c.min-count.result c.filter_frames-clipped.result c.args.input.now c.filter_frames-clipped.new.output
-    none zero no_tail over (even _ is none over full) places is.line.within due ensured.frames ensured.clips ensured.line ensured.line_capacity ensured.line_channels)
+    none zero no_tail over (even _ is none over full) places is.line.within due ensured.frames ensured.clips (ap (λ (l : Frames ℤ). l.items) ensured.line) (ap (λ (l : Frames ℤ). l.capacity) ensured.line) (ap (λ (l : Frames ℤ). l.channels) ensured.line))
 
 pub returns-clause-used : goal.returns-clause-used
 returns-clause-used c =

@@ -1,7 +1,8 @@
-use Rattle.std.proofs.Common.{◌≡◌, ◌+◌, ◌-◌, ◌≤◌, ap, ℕ, false, length, refl, reverse, arith, None}
+use Rattle.std.proofs.Common.{◌≡◌, ◌+◌, ◌-◌, ◌≤◌, ap, ℕ, ℤ, false, length, refl, reverse, arith, None}
 use Rattle.std.proofs.lemmas.List.{length-reverse}
 use Rattle.fx_frame_base.proofs.Pieces.{length-pieces}
 use Rattle.fx_frame_base.specs.Lists.{pieces}
+use Rattle.fx_frame_line.specs.Line.{Frames}
 use Rattle.fx_frame.proofs.DryLaws.{dry-pending}
 use Rattle.fx_tap_fir.specs.Fir.{centre}
 use Rattle.fx_tap_fir.specs.FirState.{FirState, IsFir}
@@ -31,7 +32,7 @@ invariant_of-self c =
     rw c.pass.ensures
     (IsFir-block first c.filter_batch-clips.new.line c.args.count c.filter_batch-clips.result (pieces s.channels c.args.count c.args.samples.now) c.self.invariant none over limit (length-pieces s.channels c.args.count c.args.samples.now)
     (λ some. rw (← late) (enough first (centre (length (reverse s.kernel))) c.self.invariant none over late (one_to_one 1 some)).0)
-    c.len-held.ensures.line delivered.line delivered.line_capacity delivered.line_channels delivered.bound)
+    c.len-held.ensures.line (ap (λ (l : Frames ℤ). l.items) delivered.line) (ap (λ (l : Frames ℤ). l.capacity) delivered.line) (ap (λ (l : Frames ℤ). l.channels) delivered.line) delivered.bound)
 
 pub returns-clause-through : goal.returns-clause-through
 returns-clause-through c =
@@ -48,4 +49,4 @@ returns-clause-through c =
     rw (← c.self.view_is, c.pass.ensures)
     (block-through first c.filter_batch-clips.new.line c.args.count c.filter_batch-clips.result c.args.samples.now c.filter_batch-clips.new.samples none zero (is.not_ended over) over places is.line.within
     (λ some. enough first (centre (length (reverse s.kernel))) is none over late (one_to_one 1 some))
-    delivered.frames delivered.clips delivered.line delivered.line_capacity delivered.line_channels)
+    delivered.frames delivered.clips (ap (λ (l : Frames ℤ). l.items) delivered.line) (ap (λ (l : Frames ℤ). l.capacity) delivered.line) (ap (λ (l : Frames ℤ). l.channels) delivered.line))
