@@ -8,21 +8,7 @@ ghost use Rattle.fx_chain_flow.specs.Runs.{AllAhead, AllKeep, AllOneToOne, MayRu
 ghost use Rattle.fx_frame_base.specs.Frame.{IsChannelCount};
 
 use crate::stage_calls::StageCalls;
-use fx_frame_base::Feeds;
 use fx_frame_base::feed::see_samples;
-
-/// For how many frames more, at most `maximum`, each stage gives one for each.
-pub(crate) fn min_one_to_one<S: Feeds>(stages: &[S], maximum: usize) -> usize
-    ensures maximum { result ≤ maximum }
-    ensures one_to_one { AllOneToOne S.acts result stages.now }
-{
-    let mut minimum = maximum;
-    'stages: for place in (0..stages.len()).rev() {
-        let one_to_one = stages[place].forecast().one_to_one;
-        minimum = (minimum as u64).min(one_to_one) as usize;
-    }
-    minimum
-}
 
 /// Passes `count` frames through stages that are dry and give one for each, and writes those that come out. All of them go
 /// through a stage before the first goes through the next: with the frames of the lines they are no more than the stages and

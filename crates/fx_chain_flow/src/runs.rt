@@ -14,7 +14,7 @@ ghost use Rattle.fx_chain_flow.specs.Runs.{AllAhead, AllKeep, FrameInOrder, MayR
 ghost use Rattle.fx_frame_base.specs.Holds.{kinds};
 ghost use Rattle.fx_frame_base.specs.Frame.{IsChannelCount};
 
-use crate::one_to_one::{min_one_to_one, run_one_to_one};
+use crate::one_to_one::run_one_to_one;
 use crate::stage_calls::StageCalls;
 use fx_frame_base::feed::{SPACE, copy_samples, see_samples};
 use fx_frame_base::pipeline::{MAX_EARLY_SAMPLES, PassesEarly};
@@ -42,17 +42,29 @@ pub(crate) fn keeps_channels<S: Stage>(stages: &[S], channels: usize) -> bool
     true
 }
 
-/// For how many frames more, at most `maximum`, no stage has had enough.
-pub(crate) fn min_ahead<S: Feeds>(stages: &[S], maximum: usize) -> usize
-    ensures maximum { result ≤ maximum }
-    ensures ahead { AllAhead S.acts result stages.now }
+/// For how many of the next frames it is known what stages in sequence do.
+#[derive(Clone, Copy)]
+pub(crate) struct CommonForecast {
+    /// For that many no stage has had enough.
+    pub ahead: usize,
+    /// For each of that many each stage gives one.
+    pub one_to_one: usize,
+}
+
+/// For how many of the next frames, at most `maximum`, it is known what all stages do.
+pub(crate) fn min_forecast<S: Feeds>(stages: &[S], maximum: usize) -> CommonForecast
+    ensures maximum { result.ahead ≤ maximum }
+    ensures ahead { AllAhead S.acts result.ahead stages.now }
+    ensures one_to_one { AllOneToOne S.acts result.one_to_one stages.now }
 {
-    let mut minimum = maximum;
+    let mut ahead = maximum;
+    let mut one_to_one = maximum;
     'stages: for place in (0..stages.len()).rev() {
-        let ahead = stages[place].forecast().ahead;
-        minimum = (minimum as u64).min(ahead) as usize;
+        let next = stages[place].forecast();
+        ahead = (ahead as u64).min(next.ahead) as usize;
+        one_to_one = (one_to_one as u64).min(next.one_to_one) as usize;
     }
-    minimum
+    CommonForecast { ahead, one_to_one }
 }
 
 /// The channels of the frames that go through stages.
@@ -249,16 +261,19 @@ fn run_early<S: StageCalls>(
     first.pass_early(rest, count, coming, &mut output[..size]);
 }
 
-/// As `run_by_frames`; where the first stage gives none, all frames that it takes until then; where each stage gives one frame for
+/// As `run_by_frames`, of stages that give one for each of the next `one_to_one` frames; where the first stage gives none, all frames that it takes until then; where each stage gives one frame for
 /// each and keeps the channels, a group that leaves the first stage early, or else a few frames at a time.
 fn run_apart<S: StageCalls>(
     stages: &mut [S],
     widths: Widths,
     count: usize,
+    one_to_one: usize,
     input: &[i32],
     output: &mut [i32],
 ) -> Passed
-    requires { MayRunPipeline S.acts widths count input.now output.old stages.old }
+    requires may { MayRunPipeline S.acts widths count input.now output.old stages.old }
+    requires within { one_to_one ≤ count }
+    requires one_to_one { AllOneToOne S.acts one_to_one stages.old }
     ensures { RanPipeline S.acts S.handed S.passed_while widths count input.now output.old output.new stages.old stages.new result }
 {
     let none_due = none_due_of_first(stages, count);
@@ -271,7 +286,6 @@ fn run_apart<S: StageCalls>(
             given: 0,
         };
     }
-    let one_to_one = min_one_to_one(stages, count);
     if !widths.keeps || one_to_one == 0 {
         return run_by_frames(stages, widths, count, input, output);
     }
@@ -296,10 +310,13 @@ pub(crate) fn run<S: StageCalls>(
     stages: &mut [S],
     widths: Widths,
     count: usize,
+    one_to_one: usize,
     input: &[i32],
     output: &mut [i32],
 ) -> Passed
-    requires { MayRunPipeline S.acts widths count input.now output.old stages.old }
+    requires may { MayRunPipeline S.acts widths count input.now output.old stages.old }
+    requires within { one_to_one ≤ count }
+    requires one_to_one { AllOneToOne S.acts one_to_one stages.old }
     ensures { RanPipeline S.acts S.handed S.passed_while widths count input.now output.old output.new stages.old stages.new result }
 {
     if count == 0 {
@@ -312,5 +329,5 @@ pub(crate) fn run<S: StageCalls>(
             given: passed,
         };
     }
-    run_apart(stages, widths, count, input, output)
+    run_apart(stages, widths, count, one_to_one, input, output)
 }

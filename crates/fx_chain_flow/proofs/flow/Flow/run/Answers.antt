@@ -7,6 +7,7 @@ use Rattle.fx_frame_base.specs.Pipeline.{outputs_of}
 use Rattle.fx_chain_flow.specs.Runs.{MayRun, RanOn}
 use Rattle.fx_chain_flow.proofs.Feeding.{all-gave}
 use Rattle.fx_chain_flow.proofs.Moving.{determined-dry}
+use Rattle.fx_chain_flow.proofs.PieceLaws.{AllOneToOne-less}
 use Rattle.fx_chain_flow.proofs.Running.{AllAhead-some, FlowCapacity-each, frames-fit, outs-fit}
 use Rattle.fx_frame_base.proofs.Puts.{written_back}
 use Rattle.fx_chain_flow.proofs.flow.Flow.run.Given as given
@@ -23,7 +24,7 @@ may g c =
     let inputs : c.args.widths.inputs ≡ s.channels = rw (← c.self.view_is) at c.requires.inputs in
     let one_in = rw (← c.self.view_is) at c.requires.one_in in
     let maximum = rw inputs at c.min-maximum.ensures in
-    let fits : c.max-count.result * s.channels ≤ length c.args.input.now = frames-fit c.max-count.result c.min_ahead.result s.channels (length c.args.input.now) c.max-count.ensures (omega (arith, c.min_ahead.ensures.maximum, maximum)) one_in in
+    let fits : c.max-count.result * s.channels ≤ length c.args.input.now = frames-fit c.max-count.result c.min_forecast-next.result.ahead s.channels (length c.args.input.now) c.max-count.ensures (omega (arith, c.min_forecast-next.ensures.maximum, maximum)) one_in in
     let all = rw (← c.self.view_is, hungry.empty) at c.requires.bound in
     (inputs, hungry.empty, hungry.not_ended, fits, record { sound = rw (hungry.empty, hungry.not_ended) at c.self.invariant.0; bound = omega (arith, all c.max-count.result fits) })
 
@@ -33,22 +34,26 @@ see_lined-requires g c =
     let hungry = rw (← c.self.view_is) at c.requires.hungry in
     rw c.deref-2.ensures.value (determined-dry g.S.Stage.acts s.wet s.stages.items c.self.invariant.1 hungry.dry)
 
-pub run-passed-requires : goal.run-passed-requires
-run-passed-requires g c =
+pub run-passed-requires-clause-may : goal.run-passed-requires-clause-may
+run-passed-requires-clause-may g c =
     let s = c.self.inside in
-    let (inputs, none, going, fits, run) = may g (goal.at.run-passed-requires g c).After-deref_mut in
+    let (inputs, none, going, fits, run) = may g (goal.at.run-passed-requires-clause-may g c).After-deref_mut in
     let hungry = rw (← c.self.view_is) at c.requires.hungry in
     record {
       frame = rw inputs (rw (← c.self.view_is) at c.requires.channels);
       outputs = rw (c.deref_mut.ensures.value, inputs) (rw (← c.self.view_is) at c.requires.outputs);
       keep = rw (c.deref_mut.ensures.value, inputs) (rw (← c.self.view_is) at c.requires.keep);
       input = rw inputs fits;
-      output = outs-fit c.max-count.result c.min_ahead.result c.args.widths.outputs c.max.result (length c.args.output.now) c.max-count.ensures c.max.ensures (omega (arith, c.min_ahead.ensures.maximum, c.min-maximum.ensures)) c.requires.one_out;
+      output = outs-fit c.max-count.result c.min_forecast-next.result.ahead c.args.widths.outputs c.max.result (length c.args.output.now) c.max-count.ensures c.max.ensures (omega (arith, c.min_forecast-next.ensures.maximum, c.min-maximum.ensures)) c.requires.one_out;
       may_run = rw (c.deref_mut.ensures.value, inputs) (s.left, run);
       determined = rw c.deref_mut.ensures.value (determined-dry g.S.Stage.acts s.wet s.stages.items c.self.invariant.1 hungry.dry);
       lined = search rules;
-      ahead = rw (c.deref_mut.ensures.value, c.max-count.ensures) (AllAhead-some g.S.Stage.acts c.min_ahead.result s.stages.items hungry.dry (rw (← c.self.view_is) at c.requires.not_spent) (rw c.deref.ensures.value at c.min_ahead.ensures.ahead));
+      ahead = rw (c.deref_mut.ensures.value, c.max-count.ensures) (AllAhead-some g.S.Stage.acts c.min_forecast-next.result.ahead s.stages.items hungry.dry (rw (← c.self.view_is) at c.requires.not_spent) (rw c.deref.ensures.value at c.min_forecast-next.ensures.ahead));
     }
+
+pub run-passed-requires-clause-one_to_one : goal.run-passed-requires-clause-one_to_one
+run-passed-requires-clause-one_to_one g c =
+    rw c.deref_mut.ensures.value (AllOneToOne-less g.S.Stage.acts c.min-one_to_one.result c.min_forecast-next.result.one_to_one c.self.inside.stages.items (omega (arith, c.min-one_to_one.ensures)) (rw c.deref.ensures.value at c.min_forecast-next.ensures.one_to_one))
 
 -- frames went through the stages, which were written back
 ran : (g : given.Over) (c : After-run-passed g) → MayRun g.S.Stage.acts c.self.inside.channels c.max-count.result c.self.inside.stages.items c.self.inside.left →
@@ -78,7 +83,7 @@ returns g c =
     let (back, after) = ran g (goal.at.returns g c).After-run-passed run in
     let many : length (pieces s.channels passed.taken c.args.input.now) ≡ passed.taken = length-pieces s.channels passed.taken c.args.input.now in
     let out-under : passed.given * c.args.widths.outputs ≤ c.max-count.result * c.args.widths.outputs = mul-le-mul_right c.args.widths.outputs (omega (arith, c.run-passed.ensures.read, c.run-passed.ensures.written)) in
-    let out-fits = outs-fit c.max-count.result c.min_ahead.result c.args.widths.outputs c.max.result (length c.args.output.now) c.max-count.ensures c.max.ensures (omega (arith, c.min_ahead.ensures.maximum, c.min-maximum.ensures)) c.requires.one_out in
+    let out-fits = outs-fit c.max-count.result c.min_forecast-next.result.ahead c.args.widths.outputs c.max.result (length c.args.output.now) c.max-count.ensures c.max.ensures (omega (arith, c.min_forecast-next.ensures.maximum, c.min-maximum.ensures)) c.requires.one_out in
     let free : passed.given * c.args.widths.outputs ≤ length c.run-passed.new.output = omega (arith, out-fits, out-under, c.run-passed.auto.output) in
     record {
       fed = rw (← c.self.view_is, back, none, going) (rw (many, outputs) at after.fed);
