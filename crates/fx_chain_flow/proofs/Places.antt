@@ -20,6 +20,12 @@ module _ {S : Type 0} (IsSo : S → Type 0) where
   At-from zero (s ∷ stages) h is = is s
   At-from (suc i) (s ∷ stages) h is = At-from i stages (omega arith) is
 
+  -- the same, of one stage in place of any where there is none
+  pub At-got : (i : ℕ) (stages : List S) (d : S) → i < length stages → IsSo (get_or stages i d) → At IsSo i stages
+  At-got i [] d h is = absurd (omega arith)
+  At-got zero (s ∷ stages) d h is = is
+  At-got (suc i) (s ∷ stages) d h is = At-got i stages d (omega arith) is
+
 module _ {S : Type 0} (Changed : S → S → Type 0) where
   pub ChangedAt-set : (i : ℕ) (stages : List S) (s' d : S) → i < length stages → Changed (get_or stages i d) s' → ChangedAt Changed i stages (set stages i s')
   ChangedAt-set i [] s' d h changed = absurd (omega arith)

@@ -106,6 +106,6 @@ module _ {S R : Type 0} (acts : Acts S R) where
   AllHeld-taken xs (s ∷ stages) [] held changed = absurd changed
 
   -- the first of stages that are ready may take frames without giving any
-  pub first-may-take : (channels count left : ℕ) (stages : List S) → AreReady acts channels left max_frames stages → left + count ≤ max_frames → AllAhead acts count stages → At (λ s. IsNoneDue acts count s × ((acts.kind_of (acts.recipe s)).outputs ≤ 16)) 0 stages → At (MayTakeMany acts channels count) 0 stages
-  first-may-take channels count left (s ∷ stages) ready bound ahead none = may-take channels count left s stages ready bound ahead none.0 none.1
-  first-may-take channels count left [] ready bound ahead none = absurd none
+  pub first-may-take : (channels count left : ℕ) (stages : List S) → AreReady acts channels left max_frames stages → left + count ≤ max_frames → AllAhead acts count stages → At (IsNoneDue acts count) 0 stages → At (λ s. (acts.kind_of (acts.recipe s)).outputs ≤ 16) 0 stages → At (MayTakeMany acts channels count) 0 stages
+  first-may-take channels count left (s ∷ stages) ready bound ahead none narrow = may-take channels count left s stages ready bound ahead none narrow
+  first-may-take channels count left [] ready bound ahead none narrow = absurd none

@@ -1,5 +1,6 @@
 -- Frames that go through stages in sequence one after another, with no checks between two of them (this project's profile).
 use Rattle.std.specs.Prelude.{ℕ, ℤ, ◌+◌, ◌*◌, ◌<◌, ◌≤◌, ◌≡◌, true, false, Option, Some, None, List, [], ◌∷◌, drop, length, option_to_list, take, if◌then◌else◌}
+use Rattle.fx_frame_base.specs.Feed.{IsNoneDue}
 use Rattle.fx_frame_base.specs.Frame.{IsChannelCount, Samples}
 use Rattle.fx_frame_base.specs.Holds.{kinds}
 use Rattle.fx_frame_base.specs.Lists.{pieces}
@@ -9,11 +10,12 @@ use Rattle.fx_frame_base.specs.Stage.{Acts}
 use Rattle.fx_frame_base.specs.declared.feed.Passed.{Passed}
 use Rattle.fx_chain_flow.specs.Composed.{due_of}
 use Rattle.fx_chain_flow.specs.Feed.{FlowFed, FlowGave, GaveLast}
-use Rattle.fx_chain_flow.specs.StageCall.{StageCall}
+use Rattle.fx_chain_flow.specs.StageCall.{At, StageCall}
 use Rattle.fx_chain_flow.specs.Order.{InOrder}
 use Rattle.fx_chain_flow.specs.Parts.{AllDetermined, Parts, ended_of, given_by, moves_of}
 use Rattle.fx_chain_flow.specs.Pipeline.{AllHeld, AllLined}
 use Rattle.fx_chain_flow.specs.Sound.{IsSound, max_frames}
+use Rattle.fx_chain_flow.specs.declared.runs.CommonForecast.{CommonForecast}
 use Rattle.fx_chain_flow.specs.declared.runs.Passage.{Passage}
 use Rattle.fx_chain_flow.specs.declared.runs.Widths.{Widths}
 
@@ -62,6 +64,18 @@ module _ {S R : Type 0} (acts : Acts S R) where
   abbrev pub FrameInOrder : (List S → StageCall → List S → Type 0) → (List Samples → List Samples → List Samples → S → S → Type 0) → ℕ → Passage → List ℤ → List ℤ → List S → List S → Type 0
   FrameInOrder handed passed_while channels passage before after old new =
       RanInOrder handed passed_while channels 1 (take channels before ∷ []) (option_to_list (frame_out channels old passage after)) old new
+
+  -- the first stage gives none for the next `count` frames
+  abbrev pub IsNoneDueOfFirst : ℕ → List S → Type 0
+  IsNoneDueOfFirst count stages = 1 ≤ count → At (IsNoneDue acts count) 0 stages
+
+  -- of the next frames it is known what stages in sequence do
+  pub record IsCommonForecast (next : CommonForecast) (stages : List S) : Type 0 where
+    -- for each of `one_to_one` frames, at most those that are passed, each stage gives one
+    pub one_to_one : AllOneToOne acts next.one_to_one stages
+    pub within : next.one_to_one ≤ next.ahead
+    -- for `none_due` frames the first stage gives none
+    pub none_due : IsNoneDueOfFirst next.none_due stages
 
   -- `count` frames at the front of the input, whose samples these are, may go through stages in sequence that keep the channels and
   -- give one for each, and the output has space for as many. A frame has 1 to 16 channels. Each stage has given what is due, holds

@@ -20,7 +20,7 @@ use crate::moves::{
     first_open, given_by_all, given_by_last, is_any_spent, is_idle, last_channels, move_on,
     pass_on, see_held, see_lined, wet_end,
 };
-use crate::runs::{Widths, keeps_channels, min_forecast, run};
+use crate::runs::{CommonForecast, Widths, keeps_channels, min_forecast, run};
 use crate::stage_calls::StageCalls;
 use fx_frame_base::Passed;
 use fx_frame_base::feed::copy_frames;
@@ -404,10 +404,15 @@ impl<S: StageCalls> Flow<S> {
     {
         let maximum = (input.len() / widths.inputs).min(output.len() / widths.outputs.max(1));
         let next = min_forecast(&self.stages, maximum);
-        let count = next.ahead.max(1);
-        let one_to_one = next.one_to_one.min(count);
+        let ahead = next.ahead.max(1);
+        let one_to_one = next.one_to_one.min(ahead);
+        let next = CommonForecast {
+            ahead,
+            one_to_one,
+            none_due: next.none_due,
+        };
         see_lined(&self.stages);
-        let passed = run(&mut self.stages, widths, count, one_to_one, input, output);
+        let passed = run(&mut self.stages, widths, next, input, output);
         self.left += passed.taken as u64;
         let stages = self.stages.len();
         self.wet = wet_end(&self.stages, stages);

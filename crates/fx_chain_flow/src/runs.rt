@@ -2,7 +2,6 @@
 ghost use Rattle.std.specs.Prelude.{◌≡◌, ◌<◌, ◌≤◌, ◌+◌, ◌*◌, ℕ, FitsSigned, true, false, drop, length, take};
 ghost use Rattle.std.specs.Int.{w32};
 ghost use Rattle.std.specs.List.{All};
-ghost use Rattle.fx_frame_base.specs.Feed.{IsNoneDue};
 ghost use Rattle.fx_frame_base.specs.Lists.{pieces};
 ghost use Rattle.fx_frame_base.specs.Pipeline.{AllOneToOne, AreReady, PipelineThrough, outputs_of};
 ghost use Rattle.fx_frame_base.specs.Stage.{kind};
@@ -10,7 +9,7 @@ ghost use Rattle.fx_chain_flow.specs.Parts.{AllDetermined};
 ghost use Rattle.fx_chain_flow.specs.Pipeline.{AllHeld, AllLined, WentThrough};
 ghost use Rattle.fx_chain_flow.specs.Order.{WentEarly};
 ghost use Rattle.fx_chain_flow.specs.StageCall.{At};
-ghost use Rattle.fx_chain_flow.specs.Runs.{AllAhead, AllKeep, FrameInOrder, MayRunPipeline, RanPipeline, frame_out};
+ghost use Rattle.fx_chain_flow.specs.Runs.{AllAhead, AllKeep, FrameInOrder, IsCommonForecast, IsNoneDueOfFirst, MayRunPipeline, RanPipeline, frame_out};
 ghost use Rattle.fx_frame_base.specs.Holds.{kinds};
 ghost use Rattle.fx_frame_base.specs.Frame.{IsChannelCount};
 
@@ -49,22 +48,31 @@ pub(crate) struct CommonForecast {
     pub ahead: usize,
     /// For each of that many each stage gives one.
     pub one_to_one: usize,
+    /// For that many the first stage gives none; 0 where there is no stage.
+    pub none_due: u64,
 }
 
-/// For how many of the next frames, at most `maximum`, it is known what all stages do.
+/// For how many of the next frames it is known what all stages do; `ahead` is at most `maximum`.
 pub(crate) fn min_forecast<S: Feeds>(stages: &[S], maximum: usize) -> CommonForecast
     ensures maximum { result.ahead ≤ maximum }
     ensures ahead { AllAhead S.acts result.ahead stages.now }
     ensures one_to_one { AllOneToOne S.acts result.one_to_one stages.now }
+    ensures none_due { IsNoneDueOfFirst S.acts result.none_due stages.now }
 {
     let mut ahead = maximum;
     let mut one_to_one = maximum;
+    let mut none_due = 0;
     'stages: for place in (0..stages.len()).rev() {
         let next = stages[place].forecast();
         ahead = (ahead as u64).min(next.ahead) as usize;
         one_to_one = (one_to_one as u64).min(next.one_to_one) as usize;
+        none_due = next.none_due;
     }
-    CommonForecast { ahead, one_to_one }
+    CommonForecast {
+        ahead,
+        one_to_one,
+        none_due,
+    }
 }
 
 /// The channels of the frames that go through stages.
@@ -197,17 +205,18 @@ fn run_by_frames<S: StageCalls>(
     }
 }
 
-/// For how many frames more, at most `maximum`, the first stage gives none; no more than it takes in one call.
-fn none_due_of_first<S: Feeds>(stages: &[S], maximum: usize) -> usize
+/// How many frames, at most `maximum`, the first stage takes in one call, where it gives none for the next `none_due`.
+fn none_due_of_first<S: Feeds>(stages: &[S], none_due: u64, maximum: usize) -> usize
+    requires { IsNoneDueOfFirst S.acts none_due stages.now }
     ensures maximum { result ≤ maximum }
-    ensures none_due { 1 ≤ result → At (λ s. IsNoneDue S.acts result s × ((kind S.acts s).outputs ≤ 16)) 0 stages.now }
+    ensures none_due { IsNoneDueOfFirst S.acts result stages.now }
+    ensures narrow { 1 ≤ result → At (λ s. (kind S.acts s).outputs ≤ 16) 0 stages.now }
 {
-    if stages.is_empty() || stages[0].out_channels() > 16 {
+    if none_due == 0 || stages.is_empty() || stages[0].out_channels() > 16 {
         return 0;
     }
     let frames = SPACE / stages[0].out_channels().max(1);
-    let none_due = stages[0].forecast().none_due.min(frames as u64);
-    (maximum as u64).min(none_due) as usize
+    (maximum as u64).min(none_due.min(frames as u64)) as usize
 }
 
 /// How many frames, at most `maximum`, can leave the first stage before as many others come to it: a group, as far as it stores so
@@ -227,9 +236,9 @@ fn early_frames<S: PassesEarly>(stages: &[S], channels: usize, maximum: usize) -
     frames
 }
 
-/// Passes `count` frames at the front of the input through stages that keep the channels and give one for each, and writes those that
-/// come out to the front of the output. As many leave the first stage early, and go through the others before those that came take
-/// their places.
+/// Passes `count` frames at the front of the input through stages that keep the channels and give one for each, and writes those
+/// that come out to the front of the output. As many leave the first stage early, and go through the others before those that came
+/// take their places.
 fn run_early<S: StageCalls>(
     stages: &mut [S],
     channels: usize,
@@ -261,22 +270,21 @@ fn run_early<S: StageCalls>(
     first.pass_early(rest, count, coming, &mut output[..size]);
 }
 
-/// As `run_by_frames`, of stages that give one for each of the next `one_to_one` frames; where the first stage gives none, all frames that it takes until then; where each stage gives one frame for
-/// each and keeps the channels, a group that leaves the first stage early, or else a few frames at a time.
+/// Passes frames at the front of the input through stages that are dry, `next.ahead` at most, as does `run`. Where the first stage
+/// gives none, it takes all of them until it does. Where each stage gives one for each and keeps the channels, they go as a group
+/// that leaves the first stage early, or else a few at a time. Others go as by `run_by_frames`.
 fn run_apart<S: StageCalls>(
     stages: &mut [S],
     widths: Widths,
-    count: usize,
-    one_to_one: usize,
+    next: CommonForecast,
     input: &[i32],
     output: &mut [i32],
 ) -> Passed
-    requires may { MayRunPipeline S.acts widths count input.now output.old stages.old }
-    requires within { one_to_one ≤ count }
-    requires one_to_one { AllOneToOne S.acts one_to_one stages.old }
-    ensures { RanPipeline S.acts S.handed S.passed_while widths count input.now output.old output.new stages.old stages.new result }
+    requires may { MayRunPipeline S.acts widths next.ahead input.now output.old stages.old }
+    requires forecast { IsCommonForecast S.acts next stages.old }
+    ensures { RanPipeline S.acts S.handed S.passed_while widths next.ahead input.now output.old output.new stages.old stages.new result }
 {
-    let none_due = none_due_of_first(stages, count);
+    let none_due = none_due_of_first(stages, next.none_due, next.ahead);
     if none_due > 0 {
         let frames = &input[..none_due * widths.inputs];
         see_samples(frames);
@@ -286,10 +294,10 @@ fn run_apart<S: StageCalls>(
             given: 0,
         };
     }
-    if !widths.keeps || one_to_one == 0 {
-        return run_by_frames(stages, widths, count, input, output);
+    if !widths.keeps || next.one_to_one == 0 {
+        return run_by_frames(stages, widths, next.ahead, input, output);
     }
-    let early = early_frames(stages, widths.inputs, one_to_one);
+    let early = early_frames(stages, widths.inputs, next.one_to_one);
     if early > 0 {
         run_early(stages, widths.inputs, early, input, output);
         return Passed {
@@ -297,37 +305,42 @@ fn run_apart<S: StageCalls>(
             given: early,
         };
     }
-    run_one_to_one(stages, widths.inputs, one_to_one, input, output);
+    run_one_to_one(stages, widths.inputs, next.one_to_one, input, output);
     Passed {
-        taken: one_to_one,
-        given: one_to_one,
+        taken: next.one_to_one,
+        given: next.one_to_one,
     }
 }
 
-/// Passes `count` frames at the front of the input through stages that are dry: in one call for all of them where they have one
-/// for exactly this sequence of effects, else as `run_apart`.
+/// Passes frames at the front of the input through stages that are dry, `next.ahead` at most: in one call where they have one for
+/// exactly this sequence of effects, else as `run_apart`.
 pub(crate) fn run<S: StageCalls>(
     stages: &mut [S],
     widths: Widths,
-    count: usize,
-    one_to_one: usize,
+    next: CommonForecast,
     input: &[i32],
     output: &mut [i32],
 ) -> Passed
-    requires may { MayRunPipeline S.acts widths count input.now output.old stages.old }
-    requires within { one_to_one ≤ count }
-    requires one_to_one { AllOneToOne S.acts one_to_one stages.old }
-    ensures { RanPipeline S.acts S.handed S.passed_while widths count input.now output.old output.new stages.old stages.new result }
+    requires may { MayRunPipeline S.acts widths next.ahead input.now output.old stages.old }
+    requires forecast { IsCommonForecast S.acts next stages.old }
+    ensures { RanPipeline S.acts S.handed S.passed_while widths next.ahead input.now output.old output.new stages.old stages.new result }
 {
-    if count == 0 {
+    if next.ahead == 0 {
         return Passed { taken: 0, given: 0 };
     }
-    let passed = S::pass_all(stages, widths.inputs, widths.outputs, count, input, output);
+    let passed = S::pass_all(
+        stages,
+        widths.inputs,
+        widths.outputs,
+        next.ahead,
+        input,
+        output,
+    );
     if passed > 0 {
         return Passed {
             taken: passed,
             given: passed,
         };
     }
-    run_apart(stages, widths, count, one_to_one, input, output)
+    run_apart(stages, widths, next, input, output)
 }

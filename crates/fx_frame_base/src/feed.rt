@@ -2,7 +2,7 @@
 ghost use Rattle.std.specs.Prelude.{◌≡◌, ◌<◌, ◌≤◌, ◌+◌, ◌-◌, ◌*◌, ◌^◌, ◌++◌, true, false, FitsSigned, drop, length, take};
 ghost use Rattle.std.specs.Int.{w32};
 ghost use Rattle.std.specs.List.{All};
-ghost use Rattle.fx_frame_base.specs.Feed.{FedBlock, IsAhead, IsNoneDue, IsOneToOne, KeepsRest, LeavesSpace, IsForecast, MayTakeAll, PassedOn, TookAll, TookWithinSpace, UsesInput};
+ghost use Rattle.fx_frame_base.specs.Feed.{FedBlock, IsAhead, IsForecast, IsNoneDue, IsOneToOne, KeepsRest, LeavesSpace, MayTakeAll, PassedOn, TookAll, TookWithinSpace, UsesInput};
 ghost use Rattle.fx_frame_base.specs.Lists.{pieces};
 ghost use Rattle.fx_frame_base.specs.Pipeline.{EachInPlace};
 ghost use Rattle.fx_frame_base.specs.Stage.{IsDry, IsLined, kind, spent};

@@ -23,8 +23,8 @@ pub trait HoldsFrames {
 
 /// A stage after one that frames leave early.
 ///
-/// All stages that can be fed have its call, and nothing is known of what `passed_while` says. So only a call of `pass_while` proves which
-/// frames a line held while others went through this stage.
+/// All stages that can be fed have its call, and nothing is known of what `passed_while` says. So only a call of `pass_while` proves
+/// which frames a line held while others went through this stage.
 pub trait PassesWhile: Feeds {
     // One call passed frames through this stage, from the first to the second state, while a line held frames: those of the line,
     // those that were passed, and those that came out.
@@ -118,9 +118,9 @@ pub trait PassesEarly: PassesPipeline {
     fn lined(&self) -> u64
         ensures { result ≡ early self.now };
 
-    /// Passes `count` frames, for each of which it gives one, through this stage and those after it, and writes the frames that come
-    /// out. Its oldest frames leave its line and go through the others first; then the frames that came take their places. With
-    /// each call of the others a line is shown to hold what this stage had stored without those oldest frames.
+    /// Passes `count` frames, for each of which it gives one, through this stage and those after it, and writes the frames that
+    /// come out. Its oldest frames leave its line and go through the others first; then the frames that came take their places.
+    /// With each call of the others a line is shown to hold what this stage had stored without those oldest frames.
     fn pass_early<F: PassesWhile>(
         &mut self,
         rest: &mut [F],

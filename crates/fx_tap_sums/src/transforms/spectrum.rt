@@ -207,9 +207,9 @@ impl Spectrum {
         }))
     }
 
-    /// How many of so many sums are best made next: as many as one transform gives, of 1,024, 2,048, 3,072 or 4,096 numbers. It gives
-    /// one for each number beyond those of the weights, but at most 2,048 of 3,072 numbers. The times are about 1, 2, 3.3 and 4.4:
-    /// one of 3,072 numbers pays where one of 2,048 and one of 1,024 do not give all sums.
+    /// How many of so many sums are best made next: as many as one transform gives, of 1,024, 2,048, 3,072 or 4,096 numbers. It
+    /// gives one for each number beyond those of the weights, but at most 2,048 of 3,072 numbers. The times are about 1, 2, 3.3 and
+    /// 4.4: one of 3,072 numbers pays where one of 2,048 and one of 1,024 do not give all sums.
     pub fn count_at_once(&self, sums: usize) -> usize
         requires { 1 ≤ sums }
         ensures some { 1 ≤ result }

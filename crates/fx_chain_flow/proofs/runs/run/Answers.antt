@@ -13,17 +13,17 @@ use Rattle.fx_chain_flow.proofs.PipelineRuns.{AreReady-run, RanOn-pipeline, Pipe
 use Rattle.fx_chain_flow.proofs.Pipelines.{AllHeld-lined}
 use Rattle.fx_chain_flow.proofs.runs.run.Goals as goal
 
-pub returns-then-count-eq0 : goal.returns-then-count-eq0
-returns-then-count-eq0 g c =
+pub returns-then-next-eq0 : goal.returns-then-next-eq0
+returns-then-next-eq0 g c =
     let none : 0 * c.args.widths.inputs ≡ 0 = omega arith in
     record {
       ran = λ left may.
-          RanOn-pipeline g.S.Stage.acts g.met.S.Stage.rises c.args.widths.inputs c.args.count 0 left c.args.stages.now c.args.stages.now c.args.input.now [] c.requires.may.frame.0 c.requires.may.frame.1 (omega arith) c.requires.may.input (rw none (All-nil (FitsSigned w32)))
+          RanOn-pipeline g.S.Stage.acts g.met.S.Stage.rises c.args.widths.inputs c.args.next.ahead 0 left c.args.stages.now c.args.stages.now c.args.input.now [] c.requires.may.frame.0 c.requires.may.frame.1 (omega arith) c.requires.may.input (rw none (All-nil (FitsSigned w32)))
           may c.requires.may.determined (AllHeld-lined g.S.Stage.acts c.args.stages.now c.requires.may.lined) c.requires.may.ahead (PipelineThrough-none g.S.Stage.acts c.args.stages.now);
       read = omega arith;
       written = omega arith;
       small = omega arith;
-      some = λ one. omega (arith, c.if-count-eq0.true);
+      some = λ one. omega (arith, c.if-next-eq0.true);
       rest_unchanged = refl;
       order = λ left. let e : left + 0 ≡ left = omega arith in rw e begun;
       held = AllHeld-lined g.S.Stage.acts c.args.stages.now c.requires.may.lined;
@@ -33,7 +33,7 @@ pub pass_all-passed-requires-clause-ready : goal.pass_all-passed-requires-clause
 pass_all-passed-requires-clause-ready g c =
     let left = c.requires.may.may_run.0 in
     let may = c.requires.may.may_run.1 in
-    (left, max_frames, may.bound, AreReady-run g.S.Stage.acts c.args.widths.inputs c.args.count left c.args.stages.now may (omega (arith, c.if-count-eq0.false)) c.requires.may.determined c.requires.may.ahead)
+    (left, max_frames, may.bound, AreReady-run g.S.Stage.acts c.args.widths.inputs c.args.next.ahead left c.args.stages.now may (omega (arith, c.if-next-eq0.false)) c.requires.may.determined c.requires.may.ahead)
 
 pub returns-then-passed-gt0 : goal.returns-then-passed-gt0
 returns-then-passed-gt0 g c =
@@ -42,7 +42,7 @@ returns-then-passed-gt0 g c =
     let held = AllHeld-pipeline g.S.Stage.acts _ _ c.args.stages.now c.pass_all-passed.new.stages through_all.through (AllHeld-lined g.S.Stage.acts c.args.stages.now c.requires.may.lined) in
     record {
       ran = λ left may.
-          RanOn-pipeline g.S.Stage.acts g.met.S.Stage.rises c.args.widths.inputs c.args.count c.pass_all-passed.result left c.args.stages.now c.pass_all-passed.new.stages c.args.input.now (pieces c.args.widths.outputs c.pass_all-passed.result c.pass_all-passed.new.output)
+          RanOn-pipeline g.S.Stage.acts g.met.S.Stage.rises c.args.widths.inputs c.args.next.ahead c.pass_all-passed.result left c.args.stages.now c.pass_all-passed.new.stages c.args.input.now (pieces c.args.widths.outputs c.pass_all-passed.result c.pass_all-passed.new.output)
           c.requires.may.frame.0 c.requires.may.frame.1 through_all.bound c.requires.may.input through_all.samples may c.requires.may.determined (AllHeld-lined g.S.Stage.acts c.args.stages.now c.requires.may.lined) c.requires.may.ahead through_all.through;
       read = through_all.bound;
       written = omega arith;
@@ -68,10 +68,10 @@ run_apart-requires-clause-may g c =
     let same = front-stays c.pass_all-passed.result c.args.widths.outputs c.args.output.now c.pass_all-passed.new.output c.if-passed-gt0.false pipeline.rest_unchanged in
     rw (stays, same) c.requires.may
 
-pub run_apart-requires-clause-one_to_one : goal.run_apart-requires-clause-one_to_one
-run_apart-requires-clause-one_to_one g c =
+pub run_apart-requires-clause-forecast : goal.run_apart-requires-clause-forecast
+run_apart-requires-clause-forecast g c =
     let stays = PipelineThrough-stays g.S.Stage.acts c.args.widths.inputs c.pass_all-passed.result c.args.input.now _ _ _ c.if-passed-gt0.false c.pass_all-passed.ensures.through in
-    rw stays c.requires.one_to_one
+    rw stays c.requires.forecast
 
 pub returns : goal.returns
 returns g c =
