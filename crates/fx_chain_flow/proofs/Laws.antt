@@ -3,6 +3,7 @@ use Rattle.std.proofs.lemmas.Bool.{and_right}
 use Rattle.fx_frame_base.specs.Frame.{Samples}
 use Rattle.fx_frame_base.specs.Stage.{Counts, Acts, Gave, Took, Ended, is_enough, kind}
 use Rattle.fx_frame_base.specs.Holds.{total, recipes, kinds}
+use Rattle.fx_frame_base.specs.Pipeline.{outputs_of}
 use Rattle.fx_chain_flow.specs.Parts.{Matching, Within, work, max_of, any_spent, through, wholes, given_by, given_of, ended_of, AllDry, AllDetermined, AllEnded, AllNew, IsLastWet, IsFirstOpen, Joined, CanHandOver, HandedOver, CanFeed, PipelineFed, EndPassed}
 use Rattle.fx_chain_flow.specs.Composed.{Whole, frames_of, clips_given, due_of, enough_for}
 
@@ -12,6 +13,15 @@ none_true true c h e = absurd (let t = h refl in cc)
 none_true false c h e = refl
 
 module _ {S R : Type 0} (acts : Acts S R) where
+  -- the last of stages decides
+  pub outputs-last : (channels : ℕ) (stages : List S) (last : S) → outputs_of channels (kinds acts (stages ++ last ∷ [])) ≡ (kind acts last).outputs
+  outputs-last channels [] last = refl
+  outputs-last channels (s ∷ stages) last = outputs-last (kind acts s).outputs stages last
+
+  pub given_by-last : (left : ℕ) (stages : List S) (last : S) → given_by acts left (stages ++ last ∷ []) ≡ (acts.counts last).given
+  given_by-last left [] last = refl
+  given_by-last left (s ∷ stages) last = given_by-last (acts.counts s).given stages last
+
   kind-stays : (s s' : S) → acts.recipe s' ≡ acts.recipe s → kind acts s' ≡ kind acts s
   kind-stays s s' e = ap acts.kind_of e
 

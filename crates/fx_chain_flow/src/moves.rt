@@ -133,13 +133,10 @@ pub(crate) fn given_by_all<S: Stage>(stages: &[S]) -> u64
 pub(crate) fn given_by_last<S: Stage>(left: u64, stages: &[S]) -> u64
     ensures { result ≡ given_by S.acts left stages.now }
 {
-    let mut given = left;
-    let mut rest = stages;
-    while let Some((stage, more)) = rest.split_first() {
-        given = stage.counter_values().given;
-        rest = more;
+    match stages.split_last() {
+        Some((last, _)) => last.counter_values().given,
+        None => left,
     }
-    given
 }
 
 /// Whether some stage gives nothing more, whatever input follows. Then the output of the last one does not depend on it.
@@ -160,13 +157,10 @@ pub(crate) fn is_any_spent<S: Stage>(stages: &[S]) -> bool
 pub(crate) fn last_channels<S: Stage>(channels: usize, stages: &[S]) -> usize
     ensures { result ≡ outputs_of channels (kinds S.acts stages.now) }
 {
-    let mut last = channels;
-    let mut rest = stages;
-    'stages: while let Some((stage, more)) = rest.split_first() {
-        last = stage.out_channels();
-        rest = more;
+    match stages.split_last() {
+        Some((last, _)) => last.out_channels(),
+        None => channels,
     }
-    last
 }
 
 /// Shows that dry stages hold only the frames of their lines.
