@@ -51,7 +51,7 @@ CanStart e Continue = CanContinue e
 CanStart e Publish = CanPublish e
 CanStart e Finish = CanFinish e
 
--- why a run does not start
+-- why a run does not start: of several causes the first in this order
 abbrev pub IsCause : Evidence → StartRefusal → Type 0
 IsCause e PartWithoutCheckpoint = (e.claim ≡ Nothing) × (e.part ≢ Missing)
 IsCause e InputMissing = (e.claim ≢ Nothing) × (e.input ≡ Missing)

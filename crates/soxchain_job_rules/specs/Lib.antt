@@ -4,6 +4,7 @@ pub mod JobNames
 pub mod Names
 pub mod NamesFault
 pub mod OutNames
+pub mod OwnFile
 pub mod Pace
 pub mod Places
 pub mod Sound

@@ -1,4 +1,6 @@
 //! The files of a job.
+ghost use Rattle.std.specs.Prelude.{Some};
+ghost use Rattle.soxchain_job_rules.specs.OwnFile.{label_of};
 
 use std::fmt;
 
@@ -22,6 +24,8 @@ pub enum OwnFile {
 }
 
 impl fmt::Display for OwnFile {
+    ghost output = { λ file. Some (label_of file) };
+
     fn fmt<W: fmt::Write>(&self, f: &mut fmt::Formatter<W>) -> fmt::Result {
         f.write_str(match self {
             OwnFile::Out => "OUT",

@@ -32,7 +32,7 @@ pub enum Standing {
 }
 
 /// Whether a run may use the name of this file, where this stands under it. There is a checkpoint only where that of this job was
-/// read.
+/// read; for a new record only where the record of that job has this name.
 pub fn may_use(file: OwnFile, standing: &Standing, has_checkpoint: bool) -> bool
     ensures { IsTrue result ↔ MayUse file standing.now has_checkpoint }
 {
@@ -63,7 +63,8 @@ fn may_use_regular(file: OwnFile, links: u64, content: Content, has_checkpoint: 
     }
 }
 
-/// Whether `--abandon` may remove what stands under the name of this file. There is a checkpoint only where that of a job was read.
+/// Whether `--abandon` may remove what stands under the name of this file. There is a checkpoint only where that of a job was read;
+/// for a new record only where the record of that job has this name.
 pub fn may_remove(file: OwnFile, standing: &Standing, has_checkpoint: bool) -> bool
     ensures { IsTrue result ↔ MayRemove file standing.now has_checkpoint }
 {
@@ -82,7 +83,7 @@ fn may_remove_regular(file: OwnFile, links: u64, content: Content, has_checkpoin
         OwnFile::Out | OwnFile::Record => false,
         OwnFile::Part | OwnFile::NewCheckpoint | OwnFile::NewRecord => has_checkpoint,
         OwnFile::Checkpoint => content == Content::Own,
-        OwnFile::Lock => links == 1 && content == Content::Empty,
+        OwnFile::Lock => may_use_regular(file, links, content, has_checkpoint),
     }
 }
 
