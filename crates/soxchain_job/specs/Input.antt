@@ -50,3 +50,10 @@ pub record Confirms {I T : Type 0} (inputs : InputModel I) (old new : I) (result
   pub unchanged : inputs.known → IsErrOf result Changed → ⊥
   -- it says that a read failed only where it counted that
   pub cause : CountsFailedReads inputs old new result
+
+-- It has the same bytes as before, has delivered at most so many, and at `Ok` was confirmed after its last read.
+pub record ConfirmsInput {I T E : Type 0} (inputs : InputModel I) (old new : I) (count : ℕ) (result : Result T E) : Type 0 where
+  -- its bytes are the same, and no more are delivered
+  pub bound : ReadsAtMost inputs old new count
+  -- it was found to be the input that it was when the run began
+  pub confirmed : OnOk result (inputs.confirmed new)

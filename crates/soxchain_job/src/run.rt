@@ -4,7 +4,7 @@ ghost use Rattle.soxchain_job.specs.Causes.{CountsAllFaults, CountsDiskFaults, H
 ghost use Rattle.soxchain_job.specs.Checkpoint.{Continues, ReadsRest, in_progress_bytes};
 ghost use Rattle.soxchain_job.specs.Disk.{CountsFaults, Durable, LeavesNow, LeavesOnly};
 ghost use Rattle.soxchain_job.specs.Growth.{CanGrow, GrowsNow, GrowsOnly, HasTakenAll, IsLiveAt, Publishes, StaysLive, StaysSafe};
-ghost use Rattle.soxchain_job.specs.Input.{ReadsAtMost, ReadsBetween};
+ghost use Rattle.soxchain_job.specs.Input.{ConfirmsInput, ReadsAtMost, ReadsBetween};
 ghost use Rattle.soxchain_job.specs.Known.{BothKnown};
 ghost use Rattle.soxchain_job.specs.Job.{IsGrowing, IsPublished, IsReady, IsRecoverable, IsSafe, Job, whole_output};
 
@@ -89,8 +89,7 @@ fn finish<C: Conversion, D: Disk, I: Input>(
     requires live { BothKnown D.model I.model → HasTakenAll C.model D.model job conversion.old disk.old }
     ensures published { Publishes C.model D.model I.model job disk.new result }
     ensures any_moment { StaysSafe C.model D.model I.model job disk.old disk.new }
-    ensures confirmed { OnOk result (I.model.confirmed input.new) }
-    ensures reads { ReadsAtMost I.model input.old input.new 0 }
+    ensures reads { ConfirmsInput I.model input.old input.new 0 result }
     ensures cause { HasEndCause D.model I.model disk.old disk.new input.old input.new result }
 {
     write_rest::<C, D, I>(disk, conversion, buffer)?;
@@ -109,8 +108,7 @@ fn publish_confirmed<C: Conversion, D: Disk, I: Input>(
     requires ready { BothKnown D.model I.model → LeavesNow D.model disk.old (IsReady C.model job) }
     ensures published { Publishes C.model D.model I.model job disk.new result }
     ensures any_moment { StaysSafe C.model D.model I.model job disk.old disk.new }
-    ensures confirmed { OnOk result (I.model.confirmed input.new) }
-    ensures reads { ReadsAtMost I.model input.old input.new 0 }
+    ensures reads { ConfirmsInput I.model input.old input.new 0 result }
     ensures cause { HasEndCause D.model I.model disk.old disk.new input.old input.new result }
 {
     input.confirm()?;
@@ -262,10 +260,7 @@ pub fn run_once<C: Conversion, D: Disk, I: Input, P: Pacing>(
     ensures too_long { BothKnown D.model I.model
         → IsErrOf result Fault.TooLong → 2 ^ 64 ≤ length (whole_output C.model job) }
     ensures cause { CountsAllFaults D.model I.model disk.old disk.new input.old input.new result }
-    ensures reads { ReadsAtMost I.model input.old input.new (I.model.size input.old) }
-
-    // After its last read the input was found to be the one that it was.
-    ensures confirmed { OnOk result (I.model.confirmed input.new) }
+    ensures reads { ConfirmsInput I.model input.old input.new (I.model.size input.old) result }
     ensures delivered { BothKnown D.model I.model
         → ReadsRest (D.model.seen disk.old).checkpoint (length job.input)
         (I.model.delivered input.old) (I.model.delivered input.new) }

@@ -53,12 +53,12 @@ pub returns-in_err-finish-clause-delivered : goal.returns-in_err-finish-clause-d
 returns-in_err-finish-clause-delivered g c = λ k.
     let continues = rw c.in-Some.is at (c.in_ok-offsets.ensures.continues k) in
     let live = rw c.in-Some.is at (c.in_ok-offsets.ensures.live k) in
-    let bound : g.I.Input.model.delivered c.finish.new.input ≤ g.I.Input.model.delivered c.args.input.now + (g.I.Input.model.size c.args.input.now - c.in-Some.offsets.taken) = omega (arith, c.convert_rest.ensures.reads.delivered, c.finish.ensures.reads.delivered) in
+    let bound : g.I.Input.model.delivered c.finish.new.input ≤ g.I.Input.model.delivered c.args.input.now + (g.I.Input.model.size c.args.input.now - c.in-Some.offsets.taken) = omega (arith, c.convert_rest.ensures.reads.delivered, c.finish.ensures.reads.bound.delivered) in
     reads_rest _ c.in-Some.offsets _ _ (g.met.I.Input.sized k.1 c.args.input.now ∙ ap length (c.requires.1.1.1.1.1.0 k.1)) live.0.within continues bound
 
 pub returns-clause-delivered : goal.returns-clause-delivered
 returns-clause-delivered g c = λ k.
     let continues = rw c.in-Some.is at (c.in_ok-offsets.ensures.continues k) in
     let live = rw c.in-Some.is at (c.in_ok-offsets.ensures.live k) in
-    let bound : g.I.Input.model.delivered c.finish.new.input ≤ g.I.Input.model.delivered c.args.input.now + (g.I.Input.model.size c.args.input.now - c.in-Some.offsets.taken) = omega (arith, c.convert_rest.ensures.reads.delivered, c.finish.ensures.reads.delivered) in
+    let bound : g.I.Input.model.delivered c.finish.new.input ≤ g.I.Input.model.delivered c.args.input.now + (g.I.Input.model.size c.args.input.now - c.in-Some.offsets.taken) = omega (arith, c.convert_rest.ensures.reads.delivered, c.finish.ensures.reads.bound.delivered) in
     reads_rest _ c.in-Some.offsets _ _ (g.met.I.Input.sized k.1 c.args.input.now ∙ ap length (c.requires.1.1.1.1.1.0 k.1)) live.0.within continues bound
