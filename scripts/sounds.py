@@ -84,12 +84,12 @@ def keep(name, data):
         file.write(data)
 
 
-def run(words, given=b'', program=None, **how):
-    """Status, standard output and messages of a run, by default of soxchain. One that does not end has no status."""
+def run(words, given=b'', program=None, seconds=60, **how):
+    """Status, standard output and messages of a run, by default of soxchain. One that does not end in so many seconds has no status."""
     try:
-        done = subprocess.run([program or built('soxchain')] + list(words), input=given, capture_output=True, timeout=60, **how)
+        done = subprocess.run([program or built('soxchain')] + list(words), input=given, capture_output=True, timeout=seconds, **how)
     except subprocess.TimeoutExpired:
-        return None, b'', 'it did not end within a minute'
+        return None, b'', f'it did not end within {seconds} seconds'
     return done.returncode, done.stdout, done.stderr.decode(errors='replace')
 
 
