@@ -15,12 +15,12 @@ use crate::pacing::Pacer;
 use crate::places::check_names;
 use crate::progress::{ProgressLine, SoundPlace};
 use crate::record::{RecordBase, report_of};
-use crate::resume::{StartPoint, start_point};
+use crate::resume::{Comparer, Heads, StartPoint, start_point};
 use crate::sound_file::SoundFile;
 use fx_frame::ByteOut;
-use fx_plan::{CommandLine, LineFault};
+use fx_plan::{CommandLine, LineFault, Plan};
 use fx_plan_lengths::frames_through;
-use fx_sound::MAX_FRAMES;
+use fx_sound::{HeadBytes, MAX_FRAMES, head_bytes};
 use soxchain::inner::{MessageWriter, Prepared, refuse_line, tell_cannot_open, tell_warnings};
 use soxchain_common::{Console, FilesFault, is_input, read_files};
 use soxchain_job::{Conversion, Disk, Fault, Input, Pacing, run_once};
@@ -30,7 +30,7 @@ use soxchain_job_rules::{InputState, JobNames, OwnFile};
 use soxchain_xxh64::xxh64;
 use std::alloc::{AllocError, Global};
 use std::fs::OpenOptions;
-use std::io::IsTerminal;
+use std::io::{ErrorKind, IsTerminal};
 
 /// The bytes of the coefficient files of a line.
 fn coefficients<'a, M: ByteOut>(
@@ -51,26 +51,36 @@ fn coefficients<'a, M: ByteOut>(
     }
 }
 
-/// Refuses an OUT that is IN or may not be written, as soxchain does, and one that is there and is no regular file.
+/// Refuses an OUT that is IN, as soxchain does, and one that is there and is no regular file.
 fn check_output<'a, M: ByteOut>(
     host: &mut HostRuntime,
     line: &CommandLine,
     out: &'a str,
     message_writer: &mut MessageWriter<M>,
 ) -> Result<(), Stop<'a>> {
-    let is_same = is_input(host, line.input(), out);
-    let is_refused = match look(host, out) {
-        Ok(Some(found)) if !is_same && !found.is_file() => {
-            return Err(JobFault::NotAFile(out).into());
-        }
-        Ok(Some(_)) => OpenOptions::new().write(true).open(host, out).is_err(),
-        _ => false,
-    };
-    if is_same || is_refused {
+    if is_input(host, line.input(), out) {
         tell_cannot_open(message_writer, out);
         return Err(Stop::Reported(2));
     }
-    Ok(())
+    match look(host, out) {
+        Ok(Some(found)) if !found.is_file() => Err(JobFault::NotAFile(out).into()),
+        _ => Ok(()),
+    }
+}
+
+/// Refuses an OUT that is there and may not be written, as soxchain does. Nothing is written to it.
+fn check_writable<'a, M: ByteOut>(
+    rt: &HostRuntime,
+    out: &'a str,
+    message_writer: &mut MessageWriter<M>,
+) -> Result<(), Stop<'a>> {
+    match OpenOptions::new().write(true).open(rt, out) {
+        Err(error) if error.kind() != ErrorKind::NotFound => {
+            tell_cannot_open(message_writer, out);
+            Err(Stop::Reported(2))
+        }
+        _ => Ok(()),
+    }
 }
 
 /// What a job is known by.
@@ -96,6 +106,17 @@ fn identity_of(
         identity.files.push(xxh64(file))?;
     }
     Ok(identity)
+}
+
+/// The head of an output of so many frames.
+fn head_of(plan: &Plan, frames: u64) -> HeadBytes {
+    head_bytes(
+        plan.kind(),
+        plan.rate(),
+        plan.channels(),
+        plan.coding(),
+        Some(frames),
+    )
 }
 
 /// Tries the place of the record: a file is made there and removed.
@@ -185,15 +206,20 @@ impl<'a> Work<'a> {
     fn start(
         &self,
         opened: &mut OpenedInput,
+        head: &[u8],
         identity: &Identity,
     ) -> Result<StartPoint, JobFault<'a>> {
         let rt = &self.rt;
-        let has_sha256 = self.options.has_sha256;
+        let comparer = Comparer {
+            rt,
+            heads: Heads::One(head),
+            with_sha256: self.options.has_sha256,
+        };
         let input = (self.input, &mut opened.file);
-        let start = start_point(rt, input, self.names, identity, has_sha256)?;
+        let start = start_point(&comparer, input, self.names, identity)?;
         try_record(rt, self.names)?;
-        if start.runs.count > 1 {
-            opened.report_place(rt, start.taken);
+        if let Some(taken) = start.continued {
+            opened.report_place(rt, taken);
         }
         Ok(start)
     }
@@ -210,16 +236,18 @@ impl<'a> Work<'a> {
     {
         let (rt, names) = (self.rt, self.names);
         let alloc = rt.alloc();
+        let Prepared { plan, chain } = prepared;
+        let frames_out = frames_through(&plan, opened.frames());
+        let head = head_of(&plan, frames_out);
         let StartPoint {
             runs,
-            taken,
+            continued,
             hashes,
             part,
             found,
-        } = self.start(&mut opened, &identity)?;
-        let progress = progress_line(rt, self.options.progress, opened.place(), taken);
-        let Prepared { plan, chain } = prepared;
-        let frames_out = frames_through(&plan, opened.frames());
+        } = self.start(&mut opened, head.as_slice(), &identity)?;
+        let at = continued.unwrap_or(0);
+        let progress = progress_line(rt, self.options.progress, opened.place(), at);
         let record = RecordBase::of(alloc, self.options.line, &plan, self.options.has_sha256)?;
         let OpenedInput {
             file,
@@ -260,6 +288,7 @@ pub fn convert<'a, M: ByteOut>(
 ) -> Result<(), Stop<'a>> {
     check_output(host, line, names.name_of(OwnFile::Out), message_writer)?;
     check_names(host, line, input, names)?;
+    check_writable(host, names.name_of(OwnFile::Out), message_writer)?;
     let files = coefficients(host, line, message_writer)?;
     let (opened, prepared) = open_input(host, line, input, &files, message_writer)?;
     if opened.frames() > MAX_FRAMES {

@@ -213,7 +213,11 @@ impl<'a> JobFault<'a> {
             JobFault::OtherTime => ("IN was changed after the job began", "", ""),
             JobFault::OtherPart(name) => ("", name, " is not what was written"),
             JobFault::PartMissing(name) => ("", name, " is missing"),
-            JobFault::OtherOut(name) => ("", name, " is not what was written"),
+            JobFault::OtherOut(name) => (
+                "",
+                name,
+                " is not what was written, and OUT.part is missing",
+            ),
             JobFault::Changed => ("IN changed while it was read", "", ""),
             _ => return None,
         })

@@ -6,7 +6,8 @@ ghost use Rattle.soxchain_job.specs.Disk.{CountsFaults};
 
 use crate::digests::{Digests, FileHash, split_summary};
 use crate::own_files::{
-    create_own, file_id, look, open_part, read_own, remove_own, sync_folder, sync_own,
+    create_own, file_id, look, no_regular_file, open_to_read, read_own, remove_own, sync_folder,
+    sync_own,
 };
 use crate::record::{RecordBase, seconds_now};
 use soxchain_job::{Checkpoint, Disk, DiskFault, FileName, decode_checkpoint};
@@ -14,12 +15,21 @@ use soxchain_job_file::{Identity, Runs, keep_checkpoint, read_job_file, write_jo
 use soxchain_job_rules::{JobNames, OwnFile, is_own_part};
 use soxchain_xxh64::hash_front;
 use std::alloc::{AllocError, Global};
-use std::fs::{self, File, Metadata};
+use std::fs::{self, File, Metadata, TryLockError};
 use std::io::{self, ErrorKind, Seek, SeekFrom, Write};
 use std::os::unix::fs::{MetadataExt, PermissionsExt, fchown};
 
-/// The bits of a mode that a file keeps: who may read, write and run it.
+/// The bits of a mode that a file keeps.
 const MODE_BITS: u32 = 0o7777;
+
+/// The bits of a mode that say who may read, write and run a file.
+const ACCESS_BITS: u32 = 0o777;
+
+/// Those of the group.
+const GROUP_BITS: u32 = 0o070;
+
+/// Those of the owner who reads and writes.
+const OWNER_BITS: u32 = 0o600;
 
 /// What a run finds, and what it writes into its files.
 #[derive(Drop)]
@@ -66,13 +76,38 @@ fn summary_of(alloc: Global, checkpoint: &[u8]) -> Result<Option<Vec<u8>>, Alloc
     }
 }
 
-/// Gives a file the mode of another and, where that is permitted, its owner.
-fn take_rights(file: &File, of: &Metadata) -> io::Result<()> {
-    // Without the right to give a file away, the owner is who runs this.
-    let _owner = fchown(file, Some(of.uid()), Some(of.gid()));
-    let mut rights = file.metadata()?.permissions();
-    rights.set_mode(of.mode() & MODE_BITS);
+/// The error of a part that is not what was written.
+fn changed_part() -> io::Error {
+    io::Error::new(
+        ErrorKind::InvalidData,
+        "it is not what was written: it was changed, replaced or removed meanwhile",
+    )
+}
+
+/// Gives a file this mode, unless it has it.
+fn set_mode(file: &File, mode: u32) -> io::Result<()> {
+    let found = file.metadata()?;
+    if found.mode() & MODE_BITS == mode {
+        return Ok(());
+    }
+    let mut rights = found.permissions();
+    rights.set_mode(mode);
     file.set_permissions(rights)
+}
+
+/// Gives a file the mode of another and, where that is permitted, its owner and group. Where it is not, nobody gets a right by it that
+/// the other file did not give.
+fn take_rights(file: &File, of: &Metadata) -> io::Result<()> {
+    let own = file.metadata()?;
+    let mut mode = of.mode() & MODE_BITS;
+    let is_same_owner = own.uid() == of.uid() && own.gid() == of.gid();
+    if !is_same_owner && fchown(file, Some(of.uid()), Some(of.gid())).is_err() {
+        mode &= ACCESS_BITS;
+        if own.gid() != of.gid() && fchown(file, None, Some(of.gid())).is_err() {
+            mode &= !GROUP_BITS;
+        }
+    }
+    set_mode(file, mode)
 }
 
 impl<'a> JobFolder<'a> {
@@ -146,6 +181,11 @@ impl<'a> JobFolder<'a> {
         let name = self.names.name_of(OwnFile::NewCheckpoint);
         remove_own(&self.rt, name)?;
         let mut file = create_own(&self.rt, name)?;
+        // A checkpoint has frames of the sound: nobody may read it who may not read OUT.
+        if let Some(older) = self.older_out()? {
+            let mode = file.metadata()?.mode() & older.mode() & ACCESS_BITS;
+            set_mode(&file, mode | OWNER_BITS)?;
+        }
         write_job_file(
             alloc,
             &mut file,
@@ -176,23 +216,24 @@ impl<'a> JobFolder<'a> {
         Ok(Some(bytes))
     }
 
-    /// Opens the part, or makes it, with the rights of the file that it is to replace.
+    /// OUT as it is before it is replaced; None where there is none.
+    fn older_out(&self) -> io::Result<Option<Metadata>> {
+        match look(&self.rt, self.names.name_of(OwnFile::Out))? {
+            Some(older) if !older.is_file() => Err(no_regular_file()),
+            found => Ok(found),
+        }
+    }
+
+    /// Makes the part where the run found none.
     fn make_part(&mut self) -> io::Result<()>
         ensures { self.new.faults ≡ self.old.faults }
     {
         if self.part.is_some() {
             return Ok(());
         }
-        let name = self.names.name_of(OwnFile::Part);
-        let file = match open_part(&self.rt, name)? {
-            Some(file) => file,
-            None => create_own(&self.rt, name)?,
-        };
-        if file.try_lock().is_err() {
-            return Err(ErrorKind::WouldBlock.into());
-        }
-        if let Some(older) = look(&self.rt, self.names.name_of(OwnFile::Out))? {
-            take_rights(&file, &older)?;
+        let file = create_own(&self.rt, self.names.name_of(OwnFile::Part))?;
+        if let Err(TryLockError::Error(error)) = file.try_lock() {
+            return Err(error);
         }
         self.part = Some(file);
         Ok(())
@@ -209,7 +250,8 @@ impl<'a> JobFolder<'a> {
         }
     }
 
-    /// Truncates the part to `len` bytes, and makes an empty one where there is none. A shorter one is not filled.
+    /// Truncates the part to `len` bytes, and makes an empty one where there is none. A shorter one is not filled. It has the rights of
+    /// the file that it is to replace from then on.
     fn truncate_part(&mut self, len: u64) -> io::Result<()>
         ensures { self.new.faults ≡ self.old.faults }
     {
@@ -217,6 +259,9 @@ impl<'a> JobFolder<'a> {
         let Some(part) = &self.part else {
             return Ok(());
         };
+        if let Some(older) = self.older_out()? {
+            take_rights(part, &older)?;
+        }
         if part.metadata()?.len() < len {
             return Err(ErrorKind::UnexpectedEof.into());
         }
@@ -228,6 +273,11 @@ impl<'a> JobFolder<'a> {
         match (name, &self.part, &self.new_checkpoint) {
             (FileName::Part, Some(part), _) => part.sync_all()?,
             (FileName::NewCheckpoint, _, Some(file)) => file.sync_all()?,
+            // It was found when the run began.
+            (FileName::Out, _, _) => match open_to_read(&self.rt, self.name_of(name))? {
+                Some(out) => out.sync_all()?,
+                None => return Err(ErrorKind::NotFound.into()),
+            },
             _ => sync_own(&self.rt, self.name_of(name))?,
         }
         self.sync_names()
@@ -251,8 +301,8 @@ impl<'a> JobFolder<'a> {
         let opened = part.metadata()?;
         part.seek(SeekFrom::Start(0))?;
         let mut hash = FileHash::new(false);
-        let size = hash_front(alloc, part, &mut hash, u64::MAX)?;
         let (written, digest) = (expected.output.size, expected.output.xxh64);
+        let size = hash_front(alloc, part, &mut hash, written.saturating_add(1))?;
         Ok(is_own_part(
             file_id(&opened),
             named,
@@ -265,19 +315,23 @@ impl<'a> JobFolder<'a> {
 
     /// Gives the part the name of the output, with the rights of the file that it replaces. Refused where the part is not what was
     /// written.
-    fn publish_part(&mut self) -> io::Result<()>
+    fn publish_part(&mut self) -> Result<(), (OwnFile, io::Error)>
         ensures { self.new.faults ≡ self.old.faults }
     {
-        if !self.is_part_written()? {
-            return Err(io::Error::new(
-                ErrorKind::InvalidData,
-                "it is not what was written: it was changed, replaced or removed meanwhile",
-            ));
+        match self.is_part_written() {
+            Ok(true) => {}
+            Ok(false) => return Err((OwnFile::Part, changed_part())),
+            Err(error) => return Err((OwnFile::Part, error)),
         }
-        if let (Some(part), Some(older)) = (
-            &self.part,
-            look(&self.rt, self.names.name_of(OwnFile::Out))?,
-        ) {
+        match self.replace_out() {
+            Ok(()) => Ok(()),
+            Err(error) => Err((OwnFile::Out, error)),
+        }
+    }
+
+    /// Renames the part to OUT, with the rights of an older one.
+    fn replace_out(&self) -> io::Result<()> {
+        if let (Some(part), Some(older)) = (&self.part, self.older_out()?) {
             take_rights(part, &older)?;
             part.sync_all()?;
         }
@@ -307,6 +361,14 @@ impl<'a> JobFolder<'a> {
         let mut file = create_own(&self.rt, new_record)?;
         file.write_all(&text)?;
         file.sync_all()?;
+        // Another job may have a record of this name.
+        let written = file_id(&file.metadata()?);
+        if look(&self.rt, new_record)?.map(|found| file_id(&found)) != Some(written) {
+            return Err(io::Error::new(
+                ErrorKind::InvalidData,
+                "another job writes a record of this name",
+            ));
+        }
         fs::rename(&self.rt, new_record, names.name_of(OwnFile::Record))?;
         sync_folder(&self.rt, names.folder_of(OwnFile::Record))
     }
@@ -333,7 +395,12 @@ impl Disk for JobFolder<'_> {
     }
 
     fn has(&mut self, name: FileName) -> Result<bool, DiskFault> {
-        let result = look(&self.rt, self.name_of(name)).map(|found| found.is_some());
+        let result = match look(&self.rt, self.name_of(name)) {
+            // Where the run has a part, it has to be there.
+            Ok(None) if name == FileName::Part && self.part.is_some() => Err(changed_part()),
+            Ok(found) => Ok(found.is_some()),
+            Err(error) => Err(error),
+        };
         self.counted(own_file(name), result)
     }
 
@@ -368,9 +435,12 @@ impl Disk for JobFolder<'_> {
     }
 
     fn rename(&mut self, from: FileName, to: FileName) -> Result<(), DiskFault> {
-        let (result, file) = match from {
-            FileName::Part => (self.publish_part(), OwnFile::Part),
-            _ => (self.rename_own(own_file(from), own_file(to)), own_file(to)),
+        let (file, result) = match from {
+            FileName::Part => match self.publish_part() {
+                Ok(()) => (OwnFile::Out, Ok(())),
+                Err((file, error)) => (file, Err(error)),
+            },
+            _ => (own_file(to), self.rename_own(own_file(from), own_file(to))),
         };
         self.counted(file, result)
     }

@@ -11,7 +11,7 @@ The sound grows in OUT.part, with checkpoints in OUT.job. OUT is complete, or it
   --record FILE       the name of the record of the finished job, by default OUT.job.json
   --sha256            the record has the SHA-256 of both files too, beside their XXH64
   --progress WHEN     shows a line of progress on standard error: auto (on a terminal), always or never
-  --status            shows the checkpoint of this job, and changes nothing; status 0 if the job can go on, 1 if there is none
+  --status            shows the checkpoint of this job, and changes nothing; status 0 if it is of these words, else 1
   --abandon           removes OUT.part and OUT.job, so that the job begins anew
   --help              shows this text
   --version           shows the version

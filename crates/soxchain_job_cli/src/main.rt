@@ -37,6 +37,7 @@ use std::process::ExitCode;
 /// The names of IN and OUT.
 fn named<'a>(line: &'a CommandLine) -> Result<(&'a str, &'a str), JobFault<'a>> {
     match (line.input(), line.output()) {
+        (Endpoint::Named(_), Endpoint::Named("")) => Err(JobFault::NotAFile("")),
         (Endpoint::Named(input), Endpoint::Named(output)) => Ok((input, output)),
         _ => Err(JobFault::StandardStream),
     }

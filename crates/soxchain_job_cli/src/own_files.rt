@@ -10,8 +10,17 @@ use std::os::unix::fs::MetadataExt;
 /// What a record begins with.
 const RECORD_START: &str = "{\n  \"began\": \"";
 
+/// What follows the first member of a record, a time of twenty letters.
+const RECORD_REST: &str = "\",\n  \"clips\": [";
+
+/// The letters of a time.
+const TIME_SIZE: usize = 20;
+
 /// How many bytes tell what a file is.
 const FRONT_SIZE: usize = 64;
+
+/// How often a file is opened that is replaced meanwhile.
+const TRIES: u32 = 8;
 
 /// Which file the answer of the system is of.
 pub fn file_id(found: &Metadata) -> FileId {
@@ -32,21 +41,30 @@ pub fn look(rt: &HostRuntime, name: &str) -> io::Result<Option<Metadata>> {
 
 /// Opens the regular file that stands under a name; None where nothing does.
 pub fn open_own(rt: &HostRuntime, name: &str, how: &OpenOptions) -> io::Result<Option<File>> {
-    let Some(found) = look(rt, name)? else {
-        return Ok(None);
-    };
-    if !found.is_file() {
-        return Err(io::Error::new(ErrorKind::InvalidInput, "it is no regular file"));
+    for _ in 0..TRIES {
+        let Some(found) = look(rt, name)? else {
+            return Ok(None);
+        };
+        if !found.is_file() {
+            return Err(no_regular_file());
+        }
+        match how.open(rt, name) {
+            Ok(file) if file_id(&file.metadata()?) == file_id(&found) => return Ok(Some(file)),
+            // Another run may have renamed or removed it just now.
+            Ok(_) => {}
+            Err(error) if error.kind() == ErrorKind::NotFound => {}
+            Err(error) => return Err(error),
+        }
     }
-    let file = how.open(rt, name)?;
-    if file_id(&file.metadata()?) == file_id(&found) {
-        Ok(Some(file))
-    } else {
-        Err(io::Error::new(
-            ErrorKind::InvalidInput,
-            "it was replaced while it was opened",
-        ))
-    }
+    Err(io::Error::new(
+        ErrorKind::InvalidInput,
+        "it was replaced while it was opened",
+    ))
+}
+
+/// The error of a name under which something else stands than a regular file.
+pub fn no_regular_file() -> io::Error {
+    io::Error::new(ErrorKind::InvalidInput, "it is no regular file")
 }
 
 /// Opens the regular file that stands under a name to be read; None where nothing does.
@@ -99,8 +117,19 @@ pub fn sync_own(rt: &HostRuntime, name: &str) -> io::Result<()> {
     }
 }
 
-/// Whether these first bytes of a file are those of a record, or as many of them as there are.
+/// Whether these first bytes of a file are those of a record.
 fn begins_as_record(front: &[u8]) -> bool {
+    match front.strip_prefix(RECORD_START.as_bytes()) {
+        Some(rest) => match rest.split_at_checked(TIME_SIZE) {
+            Some((_time, after)) => after.starts_with(RECORD_REST.as_bytes()),
+            None => false,
+        },
+        None => false,
+    }
+}
+
+/// Whether these first bytes of a file may be those of a record that was not written whole.
+fn begins_as_torn_record(front: &[u8]) -> bool {
     let start = RECORD_START.as_bytes();
     front.starts_with(start) || start.starts_with(front)
 }
@@ -115,7 +144,8 @@ fn content_of(rt: &HostRuntime, name: &str, file: OwnFile) -> io::Result<Content
     let front = &front[..count];
     let is_own = match file {
         OwnFile::Checkpoint | OwnFile::NewCheckpoint => begins_as_job_file(front),
-        OwnFile::Record | OwnFile::NewRecord => begins_as_record(front),
+        OwnFile::Record => begins_as_record(front),
+        OwnFile::NewRecord => begins_as_torn_record(front),
         OwnFile::Out | OwnFile::Part | OwnFile::Lock => false,
     };
     Ok(if front.is_empty() {

@@ -11,12 +11,15 @@ use soxchain_job_file::{
     Difference, Identity, JobFileFault, Runs, first_difference, read_job_file,
 };
 use soxchain_job_rules::{
-    Claim, Evidence, JobNames, OwnFile, Sighting, StartRefusal, may_use, start_of,
+    Claim, Evidence, JobNames, OwnFile, Sighting, Standing, StartRefusal, may_use, start_of,
 };
 use soxchain_xxh64::hash_front;
 use std::alloc::Global;
 use std::fs::File;
-use std::io::{self, Seek, SeekFrom};
+use std::io::{self, Read, Seek, SeekFrom};
+
+/// The bytes of the longest head of an output.
+const MAX_HEAD: usize = 68;
 
 /// What the checkpoint of a job says, without the frozen conversion.
 #[derive(Drop)]
@@ -34,8 +37,8 @@ pub struct Found {
 #[derive(Drop)]
 pub struct StartPoint {
     pub runs: Runs,
-    /// The bytes of IN that were taken.
-    pub taken: u64,
+    /// The bytes of IN that were taken by earlier runs; None where this one is the first.
+    pub continued: Option<u64>,
     pub hashes: Hashes,
     /// The part, opened and locked, where there is one.
     pub part: Option<File>,
@@ -96,6 +99,11 @@ pub fn find_checkpoint<'a>(
     names: &'a JobNames,
 ) -> Result<Option<Found>, JobFault<'a>> {
     let name = names.name_of(OwnFile::Checkpoint);
+    match standing_of(rt, names, OwnFile::Checkpoint) {
+        Ok(standing) if may_use(OwnFile::Checkpoint, &standing, false) => {}
+        Ok(_) => return Err(JobFault::Foreign(name)),
+        Err(error) => return Err(JobFault::File(name, error)),
+    }
     let bytes = match read_own(rt, name) {
         Ok(Some(bytes)) => bytes,
         Ok(None) => return Ok(None),
@@ -181,6 +189,9 @@ fn check_standings<'a>(
                 return Err(JobFault::NoCheckpoint(name));
             }
             Ok(_) if file == OwnFile::Out => return Err(JobFault::NotAFile(name)),
+            Ok(Standing::Other) if file == OwnFile::Record => {
+                return Err(JobFault::NotAFile(name));
+            }
             Ok(_) => return Err(JobFault::Foreign(name)),
             Err(error) => return Err(JobFault::File(name, error)),
         }
@@ -221,7 +232,7 @@ fn begin(rt: &HostRuntime, with_sha256: bool) -> StartPoint {
             began: seconds_now(rt),
             count: 1,
         },
-        taken: 0,
+        continued: None,
         hashes: Hashes::new(with_sha256),
         part: None,
         found: None,
@@ -229,7 +240,7 @@ fn begin(rt: &HostRuntime, with_sha256: bool) -> StartPoint {
 }
 
 /// The part, opened and locked; None where there is none.
-fn locked_part<'a>(rt: &HostRuntime, name: &'a str) -> Result<Option<File>, JobFault<'a>> {
+pub fn locked_part<'a>(rt: &HostRuntime, name: &'a str) -> Result<Option<File>, JobFault<'a>> {
     match open_part(rt, name) {
         Ok(Some(file)) => {
             lock_file(&file, name)?;
@@ -240,25 +251,84 @@ fn locked_part<'a>(rt: &HostRuntime, name: &'a str) -> Result<Option<File>, JobF
     }
 }
 
-/// What was hashed of a file that has the output, or a part of it: as many bytes as the checkpoint counts, and of a complete output
-/// all. None where there is no file.
-fn hash_output<'a>(
-    rt: &HostRuntime,
-    name: &'a str,
-    file: &mut Option<File>,
-    found: &Found,
-    with_sha256: bool,
-) -> Result<(Option<Hashed>, FileHash), JobFault<'a>> {
-    let Some(file) = file else {
-        return Ok((None, FileHash::new(with_sha256)));
-    };
-    let count = match found.claim {
-        Claim::Complete => u64::MAX,
-        _ => found.written.size,
-    };
-    match hash_file(rt.alloc(), file, count, with_sha256) {
-        Ok((hashed, hash)) => Ok((Some(hashed), hash)),
-        Err(error) => Err(JobFault::File(name, error)),
+/// Whether the first bytes of a file are those of a head, as far as there are any.
+fn begins_as(file: &mut File, head: &[u8]) -> io::Result<bool> {
+    file.seek(SeekFrom::Start(0))?;
+    let mut front = [0; MAX_HEAD];
+    let count = file.read(&mut front)?;
+    Ok(front[..count].starts_with(head) || head.starts_with(&front[..count]))
+}
+
+/// What the output of a job may begin with.
+#[derive(Clone, Copy)]
+pub enum Heads<'a> {
+    /// With this head.
+    One(&'a [u8]),
+    /// With that of a WAVE or of an AU.
+    Any,
+}
+
+/// How the files of a job are compared with its checkpoint.
+#[derive(Clone, Copy)]
+pub struct Comparer<'a> {
+    pub rt: &'a HostRuntime,
+    pub heads: Heads<'a>,
+    pub with_sha256: bool,
+}
+
+impl Comparer<'_> {
+    /// Whether a part of which the checkpoint counts no byte may be that of the job: it is empty, or begins as the output does.
+    fn may_be_begun(&self, file: &mut File) -> io::Result<bool> {
+        match self.heads {
+            Heads::One(head) => begins_as(file, head),
+            Heads::Any => Ok(begins_as(file, b"RIFF")? || begins_as(file, b".snd")?),
+        }
+    }
+
+    /// What was hashed of a file that has the output, or a part of it: as many bytes as the checkpoint counts, and of a complete
+    /// output one more, if there are so many.
+    fn hash_some(&self, file: &mut File, found: &Found) -> io::Result<(Hashed, FileHash)> {
+        let size = found.written.size;
+        let count = match found.claim {
+            Claim::Complete => size.saturating_add(1),
+            _ => size,
+        };
+        let (mut hashed, hash) = hash_file(self.rt.alloc(), file, count, self.with_sha256)?;
+        // Nothing is hashed of a part that has just begun.
+        if count == 0 && !self.may_be_begun(file)? {
+            hashed.size = u64::MAX;
+        }
+        Ok((hashed, hash))
+    }
+
+    /// What was hashed of a file that has the output, or a part of it. None where there is no file.
+    pub fn hash_output<'a>(
+        &self,
+        name: &'a str,
+        file: &mut Option<File>,
+        found: &Found,
+    ) -> Result<(Option<Hashed>, FileHash), JobFault<'a>> {
+        let Some(file) = file else {
+            return Ok((None, FileHash::new(self.with_sha256)));
+        };
+        match self.hash_some(file, found) {
+            Ok((hashed, hash)) => Ok((Some(hashed), hash)),
+            Err(error) => Err(JobFault::File(name, error)),
+        }
+    }
+
+    /// Refuses a part that is not what the checkpoint counts.
+    pub fn check_part<'a>(
+        &self,
+        name: &'a str,
+        part: &mut Option<File>,
+        found: &Found,
+    ) -> Result<(), JobFault<'a>> {
+        let (hashed, _hash) = self.hash_output(name, part, found)?;
+        match sighting_of(hashed, found.written) {
+            Sighting::Different => Err(JobFault::OtherPart(name)),
+            _ => Ok(()),
+        }
     }
 }
 
@@ -288,21 +358,21 @@ struct Comparison {
 
 /// Compares IN, the part, and OUT where the part is gone, with what the checkpoint says.
 fn compare_all<'a>(
-    rt: &HostRuntime,
+    comparer: &Comparer<'_>,
     (input_name, input): (&'a str, &mut File),
     names: &'a JobNames,
     found: &Found,
-    with_sha256: bool,
 ) -> Result<Comparison, JobFault<'a>> {
+    let (rt, with_sha256) = (comparer.rt, comparer.with_sha256);
     let (part_name, out_name) = (names.name_of(OwnFile::Part), names.name_of(OwnFile::Out));
+    let mut part = locked_part(rt, part_name)?;
     let (taken, input) = match hash_file(rt.alloc(), input, found.taken.size, with_sha256) {
         Ok(both) => both,
         Err(error) => return Err(JobFault::File(input_name, error)),
     };
-    let mut part = locked_part(rt, part_name)?;
-    let (written, part_hash) = hash_output(rt, part_name, &mut part, found, with_sha256)?;
+    let (written, part_hash) = comparer.hash_output(part_name, &mut part, found)?;
     let mut out = published(rt, out_name, found, &part)?;
-    let (published, out_hash) = hash_output(rt, out_name, &mut out, found, with_sha256)?;
+    let (published, out_hash) = comparer.hash_output(out_name, &mut out, found)?;
     let output = if published.is_some() {
         out_hash
     } else {
@@ -315,19 +385,30 @@ fn compare_all<'a>(
     })
 }
 
+/// How many runs wrote a checkpoint, this one included where it writes one.
+fn runs_after(found: &Found) -> Runs {
+    let more = match found.claim {
+        Claim::Complete => 0,
+        _ => 1,
+    };
+    Runs {
+        began: found.runs.began,
+        count: found.runs.count.saturating_add(more),
+    }
+}
+
 /// What a run continues from that has a checkpoint.
 fn continue_from<'a>(
-    rt: &HostRuntime,
+    comparer: &Comparer<'_>,
     input: (&'a str, &mut File),
     names: &'a JobNames,
     found: &Found,
-    with_sha256: bool,
 ) -> Result<StartPoint, JobFault<'a>> {
     let Comparison {
         evidence,
         hashes,
         part,
-    } = compare_all(rt, input, names, found, with_sha256)?;
+    } = compare_all(comparer, input, names, found)?;
     if let Err(refusal) = start_of(&evidence) {
         return Err(fault_of(refusal, found, names));
     }
@@ -336,11 +417,8 @@ fn continue_from<'a>(
         _ => None,
     };
     Ok(StartPoint {
-        runs: Runs {
-            began: found.runs.began,
-            count: found.runs.count.saturating_add(1),
-        },
-        taken: found.taken.size,
+        runs: runs_after(found),
+        continued: Some(found.taken.size),
         hashes,
         part,
         found: complete,
@@ -350,17 +428,23 @@ fn continue_from<'a>(
 /// What this run continues from; refused where the checkpoint is of another job, where IN, the part or OUT is not what it was, and
 /// where a foreign file has a name of the job.
 pub fn start_point<'a>(
-    rt: &HostRuntime,
+    comparer: &Comparer<'_>,
     input: (&'a str, &mut File),
     names: &'a JobNames,
     identity: &Identity,
-    with_sha256: bool,
 ) -> Result<StartPoint, JobFault<'a>> {
+    let rt = comparer.rt;
     let Some(found) = find_checkpoint(rt, names)? else {
         check_standings(rt, names, false)?;
-        return Ok(begin(rt, with_sha256));
+        return Ok(begin(rt, comparer.with_sha256));
     };
-    check_identity(&found.identity, identity)?;
     check_standings(rt, names, true)?;
-    continue_from(rt, input, names, &found, with_sha256)
+    if let Err(fault) = check_identity(&found.identity, identity) {
+        let name = names.name_of(OwnFile::Part);
+        let mut part = locked_part(rt, name)?;
+        // A part that is not the job's goes first: then the job can be given up.
+        comparer.check_part(name, &mut part, &found)?;
+        return Err(fault);
+    }
+    continue_from(comparer, input, names, &found)
 }

@@ -7,7 +7,7 @@ use crate::progress::ProgressLine;
 use soxchain_job::{Input, InputFault};
 use soxchain_job_rules::{InputCheck, InputState, Stamp, input_check};
 use std::fs::{self, File, Metadata};
-use std::io;
+use std::io::{self, ErrorKind};
 use std::os::unix::fs::{FileExt, MetadataExt};
 
 /// A time of the system: seconds since 1970, before that negative, and nanoseconds.
@@ -144,6 +144,8 @@ impl Input for SoundFile<'_> {
                 self.show(at.saturating_add(count as u64));
                 Ok(())
             }
+            // It has become shorter.
+            Err(error) if error.kind() == ErrorKind::UnexpectedEof => Err(InputFault::Changed),
             Err(error) => Err(self.fail(error)),
         }
     }

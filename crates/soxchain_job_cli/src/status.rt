@@ -2,12 +2,13 @@
 
 use crate::fault::JobFault;
 use crate::lock::JobLock;
-use crate::own_files::{remove_own, standing_of};
+use crate::own_files::{remove_own, standing_of, sync_folder};
 use crate::places::check_names;
 use crate::record::time_text;
-use crate::resume::{Found, find_checkpoint};
+use crate::resume::{Comparer, Found, Heads, find_checkpoint, locked_part};
 use fx_plan::CommandLine;
 use soxchain_job_rules::{Claim, JobNames, OwnFile, Standing, abandon_order, may_remove, may_use};
+use std::io;
 
 /// Whether a checkpoint is of these words.
 fn is_of(found: &Found, words: &[String]) -> bool {
@@ -21,7 +22,9 @@ fn show_checkpoint<'a>(rt: &HostRuntime, found: &Found) -> Result<(), JobFault<'
     let size = found.identity.size;
     let shown = match found.claim {
         Claim::Complete => {
-            println!(rt; "converted: 100%; OUT.part is complete, and gets its name by the next run")
+            println!(rt;
+                "converted: 100%; the output is complete, and the next run gives it its name if it has none"
+            )
         }
         _ => {
             let (taken, written) = (found.taken.size, found.written.size);
@@ -56,6 +59,15 @@ pub fn show_status<'a>(
     Ok(1)
 }
 
+/// Whether a new checkpoint or record stays where it is: the next run replaces it, or refuses it.
+fn stays(file: OwnFile, standing: &Standing, has_checkpoint: bool) -> bool {
+    match file {
+        OwnFile::NewRecord => !has_checkpoint || !may_use(file, standing, false),
+        OwnFile::NewCheckpoint => !has_checkpoint,
+        _ => false,
+    }
+}
+
 /// Whether the file of this name is there, and may be removed; refused where it is there and may not. A new record that is none by its
 /// own bytes stays: the checkpoint does not say which name its record has.
 fn is_to_be_removed<'a>(
@@ -67,12 +79,18 @@ fn is_to_be_removed<'a>(
     let name = names.name_of(file);
     match standing_of(rt, names, file) {
         Ok(Standing::Nothing) => Ok(false),
-        Ok(standing) if file == OwnFile::NewRecord && !may_use(file, &standing, false) => Ok(false),
+        Ok(standing) if stays(file, &standing, has_checkpoint) => Ok(false),
         Ok(standing) if may_remove(file, &standing, has_checkpoint) => Ok(true),
         Ok(_) if file == OwnFile::Part && !has_checkpoint => Err(JobFault::NoCheckpoint(name)),
         Ok(_) => Err(JobFault::Foreign(name)),
         Err(error) => Err(JobFault::File(name, error)),
     }
+}
+
+/// Removes a file of the job, durably.
+fn remove_durably(rt: &HostRuntime, names: &JobNames, name: &str) -> io::Result<()> {
+    remove_own(rt, name)?;
+    sync_folder(rt, names.folder_of(OwnFile::Out))
 }
 
 /// Removes the part and the checkpoint of a job that is locked; refused before anything is removed.
@@ -81,12 +99,27 @@ fn remove_files<'a>(rt: &HostRuntime, names: &'a JobNames) -> Result<(), JobFaul
     for file in abandon_order() {
         is_to_be_removed(rt, names, file, has_checkpoint)?;
     }
+    let part_name = names.name_of(OwnFile::Part);
+    let mut part = if has_checkpoint {
+        locked_part(rt, part_name)?
+    } else {
+        None
+    };
+    // A part that is not what the checkpoint counts is somebody's. Of a damaged checkpoint nothing can be compared.
+    if let Ok(Some(found)) = find_checkpoint(rt, names) {
+        let comparer = Comparer {
+            rt,
+            heads: Heads::Any,
+            with_sha256: false,
+        };
+        comparer.check_part(part_name, &mut part, &found)?;
+    }
     for file in abandon_order() {
         let name = names.name_of(file);
         if !is_to_be_removed(rt, names, file, has_checkpoint)? {
             continue;
         }
-        if let Err(error) = remove_own(rt, name) {
+        if let Err(error) = remove_durably(rt, names, name) {
             return Err(JobFault::File(name, error));
         }
     }

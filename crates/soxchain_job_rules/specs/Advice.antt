@@ -3,7 +3,7 @@ use Rattle.soxchain_job_rules.specs.declared.advice.Advice.{Advice}
 use Rattle.soxchain_job_rules.specs.declared.advice.Advice.TheVariants.{Abandon, MoveAway, Restore, None}
 use Rattle.soxchain_job_rules.specs.declared.advice.Refusal.{Refusal}
 use Rattle.soxchain_job_rules.specs.declared.advice.Refusal.TheVariants.{Clash, Standing, Start}
-use Rattle.soxchain_job_rules.specs.declared.own_file.OwnFile.TheVariants.{Out, Part}
+use Rattle.soxchain_job_rules.specs.declared.own_file.OwnFile.TheVariants.{Part}
 use Rattle.soxchain_job_rules.specs.declared.evidence.StartRefusal.{StartRefusal}
 use Rattle.soxchain_job_rules.specs.declared.evidence.StartRefusal.TheVariants.{PartWithoutCheckpoint, InputMissing, OtherPart, OtherJob, OtherInput, PartMissing, OtherOut}
 
@@ -15,7 +15,7 @@ start_advice OtherPart = MoveAway Part
 start_advice OtherJob = Abandon
 start_advice OtherInput = Abandon
 start_advice PartMissing = Abandon
-start_advice OtherOut = MoveAway Out
+start_advice OtherOut = Abandon
 
 -- A clash needs another name.
 abbrev pub advice_of : Refusal → Advice

@@ -48,9 +48,9 @@ fn start_advice(refusal: StartRefusal) -> Advice
             Advice::MoveAway(OwnFile::Part)
         }
         StartRefusal::InputMissing => Advice::Restore,
-        StartRefusal::OtherJob | StartRefusal::OtherInput | StartRefusal::PartMissing => {
-            Advice::Abandon
-        }
-        StartRefusal::OtherOut => Advice::MoveAway(OwnFile::Out),
+        StartRefusal::OtherJob
+        | StartRefusal::OtherInput
+        | StartRefusal::PartMissing
+        | StartRefusal::OtherOut => Advice::Abandon,
     }
 }
