@@ -39,7 +39,9 @@ def lay(folder, pieces):
 
 
 def standing(path):
-    """What stands at a path, without following a link: its kind, its numbers, its times, and what it holds."""
+    """What stands at a path, without following a link: its kind, its numbers, its times, and what it holds; None where nothing does."""
+    if not os.path.lexists(path):
+        return None
     found = os.lstat(path)
     held = None
     if stat.S_ISREG(found.st_mode):
