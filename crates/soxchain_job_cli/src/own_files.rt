@@ -117,6 +117,11 @@ pub fn sync_own(rt: &HostRuntime, name: &str) -> io::Result<()> {
     }
 }
 
+/// Whether these first bytes of a file are those of a checkpoint of whatever version. The first version was JSON.
+fn begins_as_other_version(front: &[u8]) -> bool {
+    front.starts_with(b"soxchain-job ") || front.starts_with(b"{\"soxchain-job\":")
+}
+
 /// Whether these first bytes of a file are those of a record.
 fn begins_as_record(front: &[u8]) -> bool {
     match front.strip_prefix(RECORD_START.as_bytes()) {
@@ -143,7 +148,8 @@ fn content_of(rt: &HostRuntime, name: &str, file: OwnFile) -> io::Result<Content
     let count = opened.read(&mut front)?;
     let front = &front[..count];
     let is_own = match file {
-        OwnFile::Checkpoint | OwnFile::NewCheckpoint => begins_as_job_file(front),
+        OwnFile::Checkpoint => begins_as_job_file(front) || begins_as_other_version(front),
+        OwnFile::NewCheckpoint => begins_as_job_file(front),
         OwnFile::Record => begins_as_record(front),
         OwnFile::NewRecord => begins_as_torn_record(front),
         OwnFile::Out | OwnFile::Part | OwnFile::Lock => false,

@@ -7,9 +7,7 @@ use crate::lock::lock_file;
 use crate::own_files::{open_part, open_to_read, read_own, standing_of};
 use crate::record::seconds_now;
 use soxchain_job::{Checkpoint, decode_checkpoint};
-use soxchain_job_file::{
-    Difference, Identity, JobFileFault, Runs, first_difference, read_job_file,
-};
+use soxchain_job_file::{Difference, Identity, JobFileFault, Runs, difference, read_job_file};
 use soxchain_job_rules::{
     Claim, Evidence, JobNames, OwnFile, Sighting, Standing, StartRefusal, may_use, start_of,
 };
@@ -201,7 +199,7 @@ fn check_standings<'a>(
 
 /// Refuses the checkpoint of another job.
 fn check_identity<'a>(stored: &Identity, own: &Identity) -> Result<(), JobFault<'a>> {
-    match first_difference(stored, own) {
+    match difference(stored, own) {
         None => Ok(()),
         Some(Difference::Words) => Err(JobFault::OtherWords),
         Some(Difference::Coefficients) => Err(JobFault::OtherCoefficients),

@@ -1,2 +1,4 @@
-pub mod Identities
-pub mod Marks
+pub mod Differences
+pub mod JobBytes
+pub mod Splits
+pub mod Versions

@@ -1,20 +1,16 @@
 //! What a job is known by.
-ghost use Rattle.std.specs.Prelude.{◌≡◌, ◌↔◌, IfSome, None};
-ghost use Rattle.soxchain_job_file.specs.Identities.{IsSameJob, IsFirstDifference};
 
-/// A time, since the start of 1970.
+/// A moment: seconds since the beginning of 1970, which may be negative, and nanoseconds after it, below 10^9.
 #[derive(Clone, Copy, Debug, Drop, PartialEq, Eq)]
 pub struct Stamp {
-    /// Whole seconds, rounded down; negative before 1970.
     pub seconds: i64,
-    /// Nanoseconds after them.
     pub nanoseconds: u32,
 }
 
 /// What a job is known by.
 #[derive(Drop)]
 pub struct Identity {
-    /// The words of soxchain.
+    /// The words of its command line.
     pub words: Vec<String>,
     /// The XXH64 of each coefficient file.
     pub files: Vec<u64>,
@@ -27,34 +23,20 @@ pub struct Identity {
 /// When a job began, and how many runs it has had.
 #[derive(Clone, Copy, Debug, Drop, PartialEq, Eq)]
 pub struct Runs {
-    /// Seconds since 1970.
+    /// Seconds since the beginning of 1970.
     pub began: u64,
     pub count: u64,
 }
 
-/// In what two jobs differ.
+/// What differs between a stored job and this one.
 #[derive(Clone, Copy, Debug, Drop, PartialEq, Eq)]
 pub enum Difference {
+    /// The words of the command line.
     Words,
+    /// The bytes of a coefficient file, or how many there are.
     Coefficients,
+    /// The size of IN.
     Length,
+    /// When IN was changed last.
     Time,
-}
-
-/// The first member in which two jobs differ; None exactly where they differ in none.
-pub fn first_difference(stored: &Identity, own: &Identity) -> Option<Difference>
-    ensures same { (result ≡ None) ↔ IsSameJob stored.now own.now }
-    ensures first { IfSome result (IsFirstDifference stored.now own.now) }
-{
-    if stored.words != own.words {
-        Some(Difference::Words)
-    } else if stored.files != own.files {
-        Some(Difference::Coefficients)
-    } else if stored.size != own.size {
-        Some(Difference::Length)
-    } else if stored.modified != own.modified {
-        Some(Difference::Time)
-    } else {
-        None
-    }
 }

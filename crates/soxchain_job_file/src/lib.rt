@@ -1,19 +1,17 @@
-//! The bytes of OUT.job: what a job is known by, a checkpoint, and a digest of both. Numbers are words of 64 bits, little-endian.
-//!
-//! First the line `soxchain-job 2`; then how many words the command line has, and each with its length; how many coefficient files
-//! there are, and the XXH64 of each; the length of IN, and the time of its last change in seconds and nanoseconds; when the job
-//! began, and how many runs it has had; the length of the checkpoint, and its bytes; then the XXH64 of all of these.
+//! The bytes of OUT.job, in which a job keeps its checkpoint: format 2.
 #![tactic(auto)]
 
+mod compare;
+mod fault;
 mod identity;
-mod marks;
-mod reading;
-mod writing;
+mod job_file;
+mod split;
+mod version;
+mod write;
 
-pub use identity::{Difference, Identity, Runs, Stamp, first_difference};
-pub use marks::begins_as_job_file;
-pub use reading::{JobFile, JobFileFault, keep_checkpoint, read_job_file};
-pub use writing::write_job_file;
-
-/// The bytes of a word.
-const WORD_SIZE: usize = 8;
+pub use compare::difference;
+pub use fault::JobFileFault;
+pub use identity::{Difference, Identity, Runs, Stamp};
+pub use job_file::{JobFile, keep_checkpoint, read_job_file};
+pub use version::{FORMAT_VERSION, begins_as_job_file};
+pub use write::write_job_file;
