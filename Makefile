@@ -26,7 +26,7 @@ help:
 	@echo 'make pictures  draws the pictures of docs/effects.md; needs gnuplot'
 	@echo 'make install [PREFIX=/usr/local] [DESTDIR=]  programs, library, manual and completion; make uninstall takes them away'
 	@echo 'make wheel     a wheel of the module for Python with the library inside, in build/'
-	@echo 'make deb       Debian packages of what make install installs, in build/; needs debhelper and dh-python'
+	@echo 'make deb       Debian packages of what make install installs, in build/; needs build-essential, debhelper and dh-python'
 	@echo 'make dist      the sources, the wheel and the Debian packages with checksums, in build/dist'
 	@echo 'make check-docs  runs each command of the documents, and looks through the manual; installs what it needs'
 	@echo 'make check-library  runs the examples of the library for C and Python beside the proved program'

@@ -35,7 +35,7 @@ _soxchain() {
         ((place == 1)) && options='-D -t -b'
         ((COMP_CWORD == 1)) && options='-D -t --help --version'
         ((COMP_CWORD == 1)) && [[ ${COMP_WORDS[0]} == *-plan ]] && options+=' --json'
-        ((place == 0)) && [[ ${COMP_WORDS[0]} == *-job ]] && options+=' --every --record --progress --status --abandon'
+        ((place == 0)) && [[ ${COMP_WORDS[0]} == *-job ]] && options+=' --every --record --sha256 --progress --status --abandon'
         if [[ $word == -* ]]; then
             mapfile -t COMPREPLY < <(compgen -W "$options" -- "$word")
         else

@@ -41,5 +41,6 @@ complete -c soxchain-job -n 'test (__soxchain_files) -eq 0' -l every -x -d 'seco
 complete -c soxchain-job -n 'test (__soxchain_files) -eq 0' -l record -r -d 'the record of the finished job'
 complete -c soxchain-job -n 'test (__soxchain_files) -eq 0' -l progress -x -a 'auto always never' -d 'shows a line of progress'
 complete -c soxchain-job -n 'test (__soxchain_files) -eq 0' -l status -d 'shows the checkpoint'
+complete -c soxchain-job -n 'test (__soxchain_files) -eq 0' -l sha256 -d 'the record has the SHA-256 of both files too'
 complete -c soxchain-job -n 'test (__soxchain_files) -eq 0' -l abandon -d 'removes the part and the checkpoint'
 set -e program

@@ -43,3 +43,12 @@ pub record HasWriteCause {D T : Type 0} (disks : DiskModel D) (disk disk' : D) (
   pub changed : IsErrOf result Faults.InputChanged → ⊥
   -- the disk failed only where it counted that
   pub counts : CountsDiskFaults disks disk disk' result
+
+-- Why a part that ends a job fails.
+pub record HasEndCause {D I T : Type 0} (disks : DiskModel D) (inputs : InputModel I) (disk disk' : D) (input input' : I) (result : Result T Fault) : Type 0 where
+  -- it reads no checkpoint
+  pub readable : RefusesNoCheckpoint result
+  -- it makes no output longer
+  pub too_long : IsErrOf result Faults.TooLong → ⊥
+  -- the disk, or the input, failed only where it counted that
+  pub counts : CountsAllFaults disks inputs disk disk' input input' result

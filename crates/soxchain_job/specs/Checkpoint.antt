@@ -30,6 +30,12 @@ IsComplete summary None = ⊥
 IsComplete summary (Some (Complete s)) = s.now ≡ summary
 IsComplete summary (Some (InProgress p)) = ⊥
 
+-- bytes from which a checkpoint was read are those of just this one
+abbrev pub IsReadFrom : List ℕ → Option Checkpoint → Type 0
+IsReadFrom bytes None = Unit {0}
+IsReadFrom bytes (Some (Complete summary)) = bytes ≡ complete_bytes summary.now
+IsReadFrom bytes (Some (InProgress p)) = bytes ≡ in_progress_bytes p.taken p.written p.frozen.now
+
 -- a run has so many bytes of the input taken, and of the output written
 abbrev pub IsAt : ℕ → ℕ → Option Offsets → Type 0
 IsAt taken written None = ⊥

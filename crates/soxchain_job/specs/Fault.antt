@@ -17,6 +17,7 @@ run_fault DiskFaults.Failed = Faults.Disk
 abbrev pub read_fault : InputFault → Fault
 read_fault InputFaults.Memory = Faults.Memory
 read_fault InputFaults.Failed = Faults.Input
+read_fault InputFaults.Changed = Faults.InputChanged
 
 abbrev pub convert_fault : ConversionFault → Fault
 convert_fault ConversionFaults.Memory = Faults.Memory

@@ -1,7 +1,7 @@
 -- The input of a job.
 use Rattle.std.specs.Prelude.{◌≡◌, ℕ, ◌+◌, ◌-◌, ◌<◌, ◌≤◌, List, Result, IsErrOf, OnOk}
 use Rattle.soxchain_job.specs.declared.input.InputFault.{InputFault}
-use Rattle.soxchain_job.specs.declared.input.InputFault.TheVariants.{Failed}
+use Rattle.soxchain_job.specs.declared.input.InputFault.TheVariants.{Changed, Failed}
 
 -- an input
 pub record InputModel (I : Type 0) : Type 1 where
@@ -13,6 +13,8 @@ pub record InputModel (I : Type 0) : Type 1 where
   -- how many bytes it has delivered, and how often it has failed
   pub delivered : I → ℕ
   pub failures : I → ℕ
+  -- after its last read it was found to be the input that it was when the run began
+  pub confirmed : I → Type 0
 
 -- a read answers that it failed only where the count of failures rose
 pub record CountsFailedReads {I T : Type 0} (inputs : InputModel I) (old new : I) (result : Result T InputFault) : Type 0 where
@@ -37,3 +39,21 @@ pub record ReadsBetween {I T E : Type 0} (inputs : InputModel I) (old new : I) (
   pub bound : ReadsAtMost inputs old new (inputs.size old - from)
   -- at `Ok` it delivers those between both, each once
   pub reads : OnOk result (inputs.delivered new + from ≡ inputs.delivered old + to)
+
+-- It is asked whether it is still the input that it was.
+pub record Confirms {I T : Type 0} (inputs : InputModel I) (old new : I) (result : Result T InputFault) : Type 0 where
+  -- its bytes and its size are the same, and none of them is delivered
+  pub bytes : ReadsAtMost inputs old new 0
+  -- at `Ok` it is
+  pub confirmed : OnOk result (inputs.confirmed new)
+  -- where its bytes are known, it does not change
+  pub unchanged : inputs.known → IsErrOf result Changed → ⊥
+  -- it says that a read failed only where it counted that
+  pub cause : CountsFailedReads inputs old new result
+
+-- It has the same bytes as before, has delivered at most so many, and at `Ok` was confirmed after its last read.
+pub record ConfirmsInput {I T E : Type 0} (inputs : InputModel I) (old new : I) (count : ℕ) (result : Result T E) : Type 0 where
+  -- its bytes are the same, and no more are delivered
+  pub bound : ReadsAtMost inputs old new count
+  -- it was found to be the input that it was when the run began
+  pub confirmed : OnOk result (inputs.confirmed new)

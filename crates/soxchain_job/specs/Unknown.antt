@@ -15,6 +15,6 @@ unknown_disk faults = record {
   faults = faults;
 }
 
--- an input of this size
-abbrev pub unknown_input : {I : Type 0} → (I → ℕ) → (I → ℕ) → (I → ℕ) → InputModel I
-unknown_input size delivered failures = record { known = ⊥; content = λ i. []; size = size; delivered = delivered; failures = failures }
+-- an input of this size, which counts what it delivered and how often it failed, and says when it was confirmed
+abbrev pub unknown_input : {I : Type 0} → (I → ℕ) → (I → ℕ) → (I → ℕ) → (I → Type 0) → InputModel I
+unknown_input size delivered failures confirmed = record { known = ⊥; content = λ i. []; size = size; delivered = delivered; failures = failures; confirmed = confirmed }

@@ -1,10 +1,11 @@
 //! A checkpoint as bytes: 0, how many bytes of the input were taken and of the output written, each as 8 bytes, little-endian, and
 //! the frozen conversion; or 1 and what is recorded of the conversion, once the output is complete.
-ghost use Rattle.std.specs.Prelude.{◌≡◌, ◌<◌, ◌^◌, ◌++◌, ℕ, List, IfOk};
+ghost use Rattle.std.specs.Prelude.{◌≡◌, ◌<◌, ◌^◌, ◌++◌, ◌∷◌, ℕ, List, IfOk};
 ghost use Rattle.std.specs.Int.{to_le_bytes, w64};
-ghost use Rattle.soxchain_job.specs.Checkpoint.{IsCheckpointOf, IsComplete, IsInProgress, complete_bytes, in_progress_bytes};
+ghost use Rattle.soxchain_job.specs.Checkpoint.{IsCheckpointOf, IsComplete, IsInProgress, IsReadFrom, complete_bytes, in_progress_bytes};
 
 use crate::Conversion;
+use byteorder::{ByteOrder, LittleEndian};
 use std::alloc::{AllocError, Global};
 
 /// How far a job has come, as its checkpoint says.
@@ -65,6 +66,7 @@ pub fn decode(bytes: &[u8]) -> Option<Checkpoint<'_>>
     ensures in_progress { (taken : ℕ) (written : ℕ) (frozen : List ℕ) → taken < 2 ^ 64 → written < 2 ^ 64
         → bytes.now ≡ in_progress_bytes taken written frozen → IsInProgress taken written frozen result }
     ensures complete { (summary : List ℕ) → bytes.now ≡ complete_bytes summary → IsComplete summary result }
+    ensures exact { IsReadFrom bytes.now result }
 {
     match bytes {
         [COMPLETE, summary @ ..] => Some(Checkpoint::Complete(summary)),
@@ -75,8 +77,9 @@ pub fn decode(bytes: &[u8]) -> Option<Checkpoint<'_>>
 
 /// What follows the first byte of a checkpoint in progress.
 fn decode_progress(bytes: &[u8]) -> Option<Checkpoint<'_>>
-    ensures { (taken : ℕ) (written : ℕ) (frozen : List ℕ) → taken < 2 ^ 64 → written < 2 ^ 64
+    ensures found { (taken : ℕ) (written : ℕ) (frozen : List ℕ) → taken < 2 ^ 64 → written < 2 ^ 64
         → bytes.now ≡ to_le_bytes w64 taken ++ to_le_bytes w64 written ++ frozen → IsInProgress taken written frozen result }
+    ensures exact { IsReadFrom (0 ∷ bytes.now) result }
 {
     let Some((taken, rest)) = bytes.split_first_chunk::<8>() else {
         return None;
@@ -85,8 +88,8 @@ fn decode_progress(bytes: &[u8]) -> Option<Checkpoint<'_>>
         return None;
     };
     Some(Checkpoint::InProgress(Progress {
-        taken: u64::from_le_bytes(*taken),
-        written: u64::from_le_bytes(*written),
+        taken: LittleEndian::read_u64(taken),
+        written: LittleEndian::read_u64(written),
         frozen,
     }))
 }

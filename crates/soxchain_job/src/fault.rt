@@ -64,6 +64,7 @@ impl From<InputFault> for Fault {
         match fault {
             InputFault::Memory => Fault::Memory,
             InputFault::Failed => Fault::Input,
+            InputFault::Changed => Fault::InputChanged,
         }
     }
 }

@@ -1,6 +1,6 @@
 //! The input of a job.
 ghost use Rattle.std.specs.Prelude.{◌≡◌, ◌≤◌, ◌+◌, ◌++◌, length, slice_range, OnOk};
-ghost use Rattle.soxchain_job.specs.Input.{CountsFailedReads, InputModel};
+ghost use Rattle.soxchain_job.specs.Input.{Confirms, CountsFailedReads, InputModel};
 
 use thiserror::Error;
 
@@ -13,6 +13,9 @@ pub enum InputFault {
     /// The input could not be read.
     #[error("the input could not be read")]
     Failed,
+    /// It is not the input any more that it was.
+    #[error("the input has changed")]
+    Changed,
 }
 
 /// An input whose bytes stay the same. It counts the bytes that it delivers, and how often it fails.
@@ -34,6 +37,11 @@ pub trait Input {
         ensures delivered { OnOk result (model.delivered self.new ≡ model.delivered self.old + count) }
         ensures bound { model.delivered self.new ≤ model.delivered self.old + count }
         ensures cause { CountsFailedReads model self.old self.new result };
+
+    /// Confirms that it is still the input that it was when the run began: as long, the same file, not written to. A run asks
+    /// this after its last read, and before anything says that the output is complete. `Changed` where it is another one.
+    fn confirm(&mut self) -> Result<(), InputFault>
+        ensures { Confirms model self.old self.new result };
 
     // Where its bytes are known, that account is true.
     ghost sized: { model.known → (i : Self) → model.size i ≡ length (model.content i) };

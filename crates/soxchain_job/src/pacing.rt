@@ -17,6 +17,9 @@ pub trait Pacing {
     /// The pace of the next round, which begins at these offsets.
     fn next(&mut self, offsets: &Offsets) -> Pace
         ensures some { (0 < result.piece) × (0 < result.every) };
+
+    /// The pieces of a round are converted; its checkpoint is written next. So a pace can tell how long each of both takes.
+    fn converted(&mut self);
 }
 
 impl Pacing for Pace {
@@ -30,4 +33,9 @@ impl Pacing for Pace {
             every: if self.every == 0 { 1 } else { self.every },
         }
     }
+
+    /// A fixed pace needs no times.
+    fn converted(&mut self)
+        ensures { self.new ≡ self.old }
+    {}
 }

@@ -1,10 +1,10 @@
 //! A run of a job, from wherever the last one was stopped.
 ghost use Rattle.std.specs.Prelude.{◌≡◌, ◌<◌, ◌≤◌, ◌+◌, ◌-◌, ◌*◌, ◌^◌, ◌⊎◌, length, min, List, ℕ, None, Some, IfOk, IsErrOf, MatchOption, OnOk};
-ghost use Rattle.soxchain_job.specs.Causes.{CountsAllFaults, CountsDiskFaults, HasPieceCause, HasWriteCause, RefusesNoCheckpoint};
+ghost use Rattle.soxchain_job.specs.Causes.{CountsAllFaults, CountsDiskFaults, HasEndCause, HasPieceCause, HasWriteCause, RefusesNoCheckpoint};
 ghost use Rattle.soxchain_job.specs.Checkpoint.{Continues, ReadsRest, in_progress_bytes};
 ghost use Rattle.soxchain_job.specs.Disk.{CountsFaults, Durable, LeavesNow, LeavesOnly};
 ghost use Rattle.soxchain_job.specs.Growth.{CanGrow, GrowsNow, GrowsOnly, HasTakenAll, IsLiveAt, Publishes, StaysLive, StaysSafe};
-ghost use Rattle.soxchain_job.specs.Input.{ReadsAtMost, ReadsBetween};
+ghost use Rattle.soxchain_job.specs.Input.{ConfirmsInput, ReadsAtMost, ReadsBetween};
 ghost use Rattle.soxchain_job.specs.Known.{BothKnown};
 ghost use Rattle.soxchain_job.specs.Job.{IsGrowing, IsPublished, IsReady, IsRecoverable, IsSafe, Job, whole_output};
 
@@ -76,11 +76,12 @@ fn mark_complete<C: Conversion, D: Disk, I: Input>(
     Ok(())
 }
 
-/// Ends the job, once all of the input was taken.
+/// Ends the job, once all of the input was taken. The input is confirmed before anything says that the output is complete.
 fn finish<C: Conversion, D: Disk, I: Input>(
     alloc: Global,
     disk: &mut D,
     conversion: &mut C,
+    input: &mut I,
     buffer: &mut Vec<u8>,
 ) -> Result<(), Fault>
     ghost job: { Job C }
@@ -88,16 +89,34 @@ fn finish<C: Conversion, D: Disk, I: Input>(
     requires live { BothKnown D.model I.model → HasTakenAll C.model D.model job conversion.old disk.old }
     ensures published { Publishes C.model D.model I.model job disk.new result }
     ensures any_moment { StaysSafe C.model D.model I.model job disk.old disk.new }
-    ensures readable { RefusesNoCheckpoint result }
-    ensures cause { CountsDiskFaults D.model disk.old disk.new result }
+    ensures reads { ConfirmsInput I.model input.old input.new 0 result }
+    ensures cause { HasEndCause D.model I.model disk.old disk.new input.old input.new result }
 {
     write_rest::<C, D, I>(disk, conversion, buffer)?;
+    input.confirm()?; // Nothing says yet that the output is complete.
     mark_complete::<C, D, I>(alloc, disk, conversion)?;
     publish::<C, D, I>(disk)?;
     Ok(())
 }
 
-/// Continues from the last checkpoint, or begins. None where the output was complete: it has its name then.
+/// Ends a job whose output was complete already: the input is confirmed, and the output gets its name.
+fn publish_confirmed<C: Conversion, D: Disk, I: Input>(
+    disk: &mut D,
+    input: &mut I,
+) -> Result<(), Fault>
+    ghost job: { Job C }
+    requires ready { BothKnown D.model I.model → LeavesNow D.model disk.old (IsReady C.model job) }
+    ensures published { Publishes C.model D.model I.model job disk.new result }
+    ensures any_moment { StaysSafe C.model D.model I.model job disk.old disk.new }
+    ensures reads { ConfirmsInput I.model input.old input.new 0 result }
+    ensures cause { HasEndCause D.model I.model disk.old disk.new input.old input.new result }
+{
+    input.confirm()?;
+    publish::<C, D, I>(disk)?;
+    Ok(())
+}
+
+/// Continues from the last checkpoint, or begins. None where the output is complete.
 fn resume<C: Conversion, D: Disk, I: Input>(
     alloc: Global,
     disk: &mut D,
@@ -107,7 +126,7 @@ fn resume<C: Conversion, D: Disk, I: Input>(
     requires fresh { conversion.old ≡ job.start }
     requires safe { BothKnown D.model I.model → LeavesNow D.model disk.old (IsRecoverable C.model job) }
     ensures live { BothKnown D.model I.model → IfOk result (λ r. MatchOption r
-        (IsPublished C.model D.model job disk.new)
+        (LeavesNow D.model disk.new (IsReady C.model job))
         (λ p. IsLiveAt C.model D.model job conversion.new p disk.new
         × (LeavesNow D.model disk.new (IsGrowing C.model job)))) }
     ensures continues { BothKnown D.model I.model
@@ -121,10 +140,7 @@ fn resume<C: Conversion, D: Disk, I: Input>(
         None => Ok(Some(begin::<C, D, I>(alloc, disk, conversion)?)),
         Some(bytes) => match decode(&bytes) {
             None => Err(Fault::BadCheckpoint),
-            Some(Checkpoint::Complete(_)) => {
-                publish::<C, D, I>(disk)?;
-                Ok(None)
-            }
+            Some(Checkpoint::Complete(_)) => Ok(None),
             Some(Checkpoint::InProgress(progress)) => {
                 Ok(Some(resume_from::<C, D, I>(alloc, disk, conversion, &progress)?))
             }
@@ -173,22 +189,19 @@ fn convert_pieces<C: Conversion, D: Disk, I: Input>(
     Ok(())
 }
 
-/// Converts the next `pace.every` pieces, or those that are left, and writes a checkpoint after them.
-fn convert_to_checkpoint<C: Conversion, D: Disk, I: Input>(
+/// Converts the next pieces, as many as their pace says or those that are left, and writes a checkpoint after them.
+fn convert_to_checkpoint<C: Conversion, D: Disk, I: Input, P: Pacing>(
     alloc: Global,
     disk: &mut D,
     conversion: &mut C,
     input: &mut I,
-    pace: Pace,
+    pacing: &mut P,
     offsets: &mut Offsets,
     buffers: &mut Buffers,
 ) -> Result<(), Fault>
     ghost job: { Job C }
     requires grows { CanGrow C.model D.model I.model job conversion.old disk.old input.old offsets.old }
-    requires some { (0 < pace.piece) × (0 < pace.every) }
     ensures live { StaysLive C.model D.model I.model job conversion.new offsets.new disk.new result }
-    ensures pieces { OnOk result ((I.model.size input.old ≤ offsets.new.taken)
-        ⊎ (offsets.new.taken ≡ offsets.old.taken + pace.every * pace.piece)) }
     ensures written { BothKnown D.model I.model
         → OnOk result ((frozen : List ℕ) × ((D.model.seen disk.new).checkpoint
         ≡ Some (in_progress_bytes offsets.new.taken offsets.new.written frozen))) }
@@ -198,7 +211,9 @@ fn convert_to_checkpoint<C: Conversion, D: Disk, I: Input>(
     ensures cause { HasPieceCause C.model D.model I.model job disk.old disk.new input.old input.new result }
     ensures reads { ReadsBetween I.model input.old input.new offsets.old.taken offsets.new.taken result }
 {
+    let pace = pacing.next(offsets);
     convert_pieces(disk, conversion, input, pace, offsets, buffers)?;
+    pacing.converted();
     write_checkpoint::<C, D, I>(alloc, disk, conversion, offsets)?;
     Ok(())
 }
@@ -222,8 +237,7 @@ fn convert_rest<C: Conversion, D: Disk, I: Input, P: Pacing>(
     ensures reads { ReadsAtMost I.model input.old input.new (I.model.size input.old - offsets.old.taken) }
 {
     while offsets.taken < input.len() {
-        let pace = pacing.next(offsets);
-        convert_to_checkpoint(alloc, disk, conversion, input, pace, offsets, buffers)?;
+        convert_to_checkpoint(alloc, disk, conversion, input, pacing, offsets, buffers)?;
     }
     Ok(())
 }
@@ -246,13 +260,13 @@ pub fn run_once<C: Conversion, D: Disk, I: Input, P: Pacing>(
     ensures too_long { BothKnown D.model I.model
         → IsErrOf result Fault.TooLong → 2 ^ 64 ≤ length (whole_output C.model job) }
     ensures cause { CountsAllFaults D.model I.model disk.old disk.new input.old input.new result }
-    ensures reads { ReadsAtMost I.model input.old input.new (I.model.size input.old) }
+    ensures reads { ConfirmsInput I.model input.old input.new (I.model.size input.old) result }
     ensures delivered { BothKnown D.model I.model
         → ReadsRest (D.model.seen disk.old).checkpoint (length job.input)
         (I.model.delivered input.old) (I.model.delivered input.new) }
 {
     let Some(mut offsets) = resume::<C, D, I>(alloc, disk, conversion)? else {
-        return Ok(());
+        return publish_confirmed::<C, D, I>(disk, input);
     };
     let mut buffers = Buffers {
         input: Vec::new(alloc),
@@ -267,6 +281,6 @@ pub fn run_once<C: Conversion, D: Disk, I: Input, P: Pacing>(
         &mut offsets,
         &mut buffers,
     )?;
-    finish::<C, D, I>(alloc, disk, conversion, &mut buffers.output)?;
+    finish::<C, D, I>(alloc, disk, conversion, input, &mut buffers.output)?;
     Ok(())
 }

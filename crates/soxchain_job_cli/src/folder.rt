@@ -4,66 +4,67 @@ ghost use Rattle.std.proofs.Common.{arith};
 ghost use Rattle.soxchain_job.specs.Unknown.{unknown_disk};
 ghost use Rattle.soxchain_job.specs.Disk.{CountsFaults};
 
-use crate::job_file::{Runs, keep_checkpoint, read_job_file, write_job_file};
-use crate::names::JobNames;
-use crate::record::RecordBase;
-use serde_json::Value;
+use crate::digests::{Digests, FileHash, split_summary};
+use crate::own_files::{
+    create_own, file_id, look, no_regular_file, open_to_read, read_own, remove_own, sync_folder,
+    sync_own,
+};
+use crate::record::{RecordBase, seconds_now};
 use soxchain_job::{Checkpoint, Disk, DiskFault, FileName, decode_checkpoint};
+use soxchain_job_file::{Identity, Runs, keep_checkpoint, read_job_file, write_job_file};
+use soxchain_job_rules::{JobNames, OwnFile, is_own_part};
+use soxchain_xxh64::hash_front;
 use std::alloc::{AllocError, Global};
-use std::fs::{self, File, OpenOptions};
-use std::io::{self, ErrorKind, Write};
-use std::time::{SystemTime, UNIX_EPOCH};
+use std::fs::{self, File, Metadata, TryLockError};
+use std::io::{self, ErrorKind, Seek, SeekFrom, Write};
+use std::os::unix::fs::{MetadataExt, PermissionsExt, fchown};
 
-/// The folder of OUT: the files of a job, and its record, which is written before OUT gets its name.
+/// The bits of a mode that a file keeps.
+const MODE_BITS: u32 = 0o7777;
+
+/// The bits of a mode that say who may read, write and run a file.
+const ACCESS_BITS: u32 = 0o777;
+
+/// Those of the group.
+const GROUP_BITS: u32 = 0o070;
+
+/// Those of the owner who reads and writes.
+const OWNER_BITS: u32 = 0o600;
+
+/// What a run finds, and what it writes into its files.
 #[derive(Drop)]
-pub struct JobFolder {
+pub struct JobInfo {
+    pub identity: Identity,
+    pub runs: Runs,
+    pub record: RecordBase,
+}
+
+/// The folder of OUT: the files of a job, and its record, which is written once OUT has its name.
+#[derive(Drop)]
+pub struct JobFolder<'a> {
     rt: HostRuntime,
-    names: JobNames,
-    identity: Value,
-    runs: Runs,
-    record: RecordBase,
-    /// The part, opened to be written at its end.
+    names: &'a JobNames,
+    info: JobInfo,
+    /// The part, opened and locked, to be read, and written at its end.
     part: Option<File>,
+    /// A new checkpoint that was written and not renamed yet.
+    new_checkpoint: Option<File>,
     /// What the last checkpoint that was written or read records of a complete output.
     summary: Option<Vec<u8>>,
+    /// What an output is known by that was complete when the run began.
+    found: Option<Digests>,
     faults: u64,
     /// The file whose call failed last, and why.
-    error: Option<(FileName, io::Error)>,
+    error: Option<(OwnFile, io::Error)>,
 }
 
-/// The seconds since 1970; 0 where the clock is before that.
-pub fn seconds_now(rt: &HostRuntime) -> u64 {
-    match SystemTime::now(rt) {
-        Ok(now) => match now.duration_since(UNIX_EPOCH) {
-            Ok(since) => since.as_secs(),
-            Err(_) => 0,
-        },
-        Err(_) => 0,
-    }
-}
-
-/// Writes a file anew, and makes its bytes durable.
-fn write_durably(rt: &HostRuntime, name: &str, bytes: &[u8]) -> io::Result<()> {
-    let mut file = File::create(rt, name)?;
-    file.write_all(bytes)?;
-    file.sync_all()
-}
-
-/// Makes a file durable, where there is one.
-fn sync_file(rt: &HostRuntime, name: &str) -> io::Result<()> {
-    match File::open(rt, name) {
-        Ok(file) => file.sync_all(),
-        Err(error) if error.kind() == ErrorKind::NotFound => Ok(()),
-        Err(error) => Err(error),
-    }
-}
-
-/// The bytes of a file; None where there is none.
-pub fn read_file(rt: &HostRuntime, name: &str) -> io::Result<Option<Vec<u8>>> {
-    match fs::read(rt, name) {
-        Ok(bytes) => Ok(Some(bytes)),
-        Err(error) if error.kind() == ErrorKind::NotFound => Ok(None),
-        Err(error) => Err(error),
+/// The file of a job that a disk of it has under this name.
+fn own_file(name: FileName) -> OwnFile {
+    match name {
+        FileName::Part => OwnFile::Part,
+        FileName::NewCheckpoint => OwnFile::NewCheckpoint,
+        FileName::Checkpoint => OwnFile::Checkpoint,
+        FileName::Out => OwnFile::Out,
     }
 }
 
@@ -75,23 +76,58 @@ fn summary_of(alloc: Global, checkpoint: &[u8]) -> Result<Option<Vec<u8>>, Alloc
     }
 }
 
-impl JobFolder {
-    /// The folder of a job's files.
+/// The error of a part that is not what was written.
+fn changed_part() -> io::Error {
+    io::Error::new(
+        ErrorKind::InvalidData,
+        "it is not what was written: it was changed, replaced or removed meanwhile",
+    )
+}
+
+/// Gives a file this mode, unless it has it.
+fn set_mode(file: &File, mode: u32) -> io::Result<()> {
+    let found = file.metadata()?;
+    if found.mode() & MODE_BITS == mode {
+        return Ok(());
+    }
+    let mut rights = found.permissions();
+    rights.set_mode(mode);
+    file.set_permissions(rights)
+}
+
+/// Gives a file the mode of another and, where that is permitted, its owner and group. Where it is not, nobody gets a right by it that
+/// the other file did not give.
+fn take_rights(file: &File, of: &Metadata) -> io::Result<()> {
+    let own = file.metadata()?;
+    let mut mode = of.mode() & MODE_BITS;
+    let is_same_owner = own.uid() == of.uid() && own.gid() == of.gid();
+    if !is_same_owner && fchown(file, Some(of.uid()), Some(of.gid())).is_err() {
+        mode &= ACCESS_BITS;
+        if own.gid() != of.gid() && fchown(file, None, Some(of.gid())).is_err() {
+            mode &= !GROUP_BITS;
+        }
+    }
+    set_mode(file, mode)
+}
+
+impl<'a> JobFolder<'a> {
+    /// The folder of a job's files. `part` is opened and locked, where there is one; `found` is what an output is known by that is
+    /// complete already.
     pub fn new(
         rt: HostRuntime,
-        names: JobNames,
-        identity: Value,
-        runs: Runs,
-        record: RecordBase,
-    ) -> JobFolder {
+        names: &'a JobNames,
+        info: JobInfo,
+        part: Option<File>,
+        found: Option<Digests>,
+    ) -> JobFolder<'a> {
         JobFolder {
             rt,
             names,
-            identity,
-            runs,
-            record,
-            part: None,
+            info,
+            part,
+            new_checkpoint: None,
             summary: None,
+            found,
             faults: 0,
             error: None,
         }
@@ -103,17 +139,22 @@ impl JobFolder {
     }
 
     /// The file whose call failed last, and why.
-    pub fn into_error(self) -> Option<(FileName, io::Error)> {
+    pub fn into_error(self) -> Option<(OwnFile, io::Error)> {
         self.error
+    }
+
+    /// The name of a file of the job.
+    fn name_of(&self, name: FileName) -> &str {
+        self.names.name_of(own_file(name))
     }
 
     /// Makes the names of the folder durable.
     fn sync_names(&self) -> io::Result<()> {
-        File::open(&self.rt, self.names.folder.as_str())?.sync_all()
+        sync_folder(&self.rt, self.names.folder_of(OwnFile::Out))
     }
 
     /// The result of a call on this file: an error is counted, and kept.
-    fn counted<T: Drop>(&mut self, name: FileName, outcome: io::Result<T>) -> Result<T, DiskFault>
+    fn counted<T: Drop>(&mut self, file: OwnFile, outcome: io::Result<T>) -> Result<T, DiskFault>
         ensures later { self.old.faults ≤ self.new.faults }
         ensures failed { IsErrOf result DiskFault.Failed → self.old.faults < self.new.faults }
     {
@@ -126,19 +167,33 @@ impl JobFolder {
                     return Err(DiskFault::Memory);
                 };
                 self.faults = faults;
-                self.error = Some((name, error));
+                self.error = Some((file, error));
                 Err(DiskFault::Failed)
             }
         }
     }
 
-    /// Writes a checkpoint under the name for a new one.
+    /// Writes a checkpoint into a new file. What a run that was stopped left there is removed first.
     fn write_checkpoint(&mut self, checkpoint: &[u8]) -> io::Result<()>
         ensures { self.new.faults ≡ self.old.faults }
     {
         let alloc = self.rt.alloc();
-        let mut file = File::create(&self.rt, self.names.new_job.as_str())?;
-        write_job_file(alloc, &mut file, &self.identity, self.runs, checkpoint)?;
+        let name = self.names.name_of(OwnFile::NewCheckpoint);
+        remove_own(&self.rt, name)?;
+        let mut file = create_own(&self.rt, name)?;
+        // A checkpoint has frames of the sound: nobody may read it who may not read OUT.
+        if let Some(older) = self.older_out()? {
+            let mode = file.metadata()?.mode() & older.mode() & ACCESS_BITS;
+            set_mode(&file, mode | OWNER_BITS)?;
+        }
+        write_job_file(
+            alloc,
+            &mut file,
+            &self.info.identity,
+            self.info.runs,
+            checkpoint,
+        )?;
+        self.new_checkpoint = Some(file);
         self.summary = summary_of(alloc, checkpoint)?;
         Ok(())
     }
@@ -147,7 +202,7 @@ impl JobFolder {
     fn read_checkpoint(&mut self, alloc: Global) -> io::Result<Option<Vec<u8>>>
         ensures { self.new.faults ≡ self.old.faults }
     {
-        let Some(mut bytes) = read_file(&self.rt, self.names.job.as_str())? else {
+        let Some(mut bytes) = read_own(&self.rt, self.names.name_of(OwnFile::Checkpoint))? else {
             return Ok(None);
         };
         let size = match read_job_file(alloc, &bytes) {
@@ -161,81 +216,165 @@ impl JobFolder {
         Ok(Some(bytes))
     }
 
-    /// Writes at the end of a file.
-    fn write_at_end(&mut self, name: FileName, bytes: &[u8]) -> io::Result<()>
+    /// OUT as it is before it is replaced; None where there is none.
+    fn older_out(&self) -> io::Result<Option<Metadata>> {
+        match look(&self.rt, self.names.name_of(OwnFile::Out))? {
+            Some(older) if !older.is_file() => Err(no_regular_file()),
+            found => Ok(found),
+        }
+    }
+
+    /// Makes the part where the run found none.
+    fn make_part(&mut self) -> io::Result<()>
         ensures { self.new.faults ≡ self.old.faults }
     {
-        if self.part.is_none() {
-            let file = OpenOptions::new()
-                .append(true)
-                .create(true)
-                .open(&self.rt, self.names.name_of(name))?;
-            self.part = Some(file);
+        if self.part.is_some() {
+            return Ok(());
         }
+        let file = create_own(&self.rt, self.names.name_of(OwnFile::Part))?;
+        if let Err(TryLockError::Error(error)) = file.try_lock() {
+            return Err(error);
+        }
+        self.part = Some(file);
+        Ok(())
+    }
+
+    /// Writes at the end of the part.
+    fn write_at_end(&mut self, bytes: &[u8]) -> io::Result<()>
+        ensures { self.new.faults ≡ self.old.faults }
+    {
+        self.make_part()?;
         match &mut self.part {
             Some(part) => part.write_all(bytes),
             None => Ok(()),
         }
     }
 
-    /// Truncates a file to `len` bytes, and makes an empty one where there is none. A shorter one is not filled.
-    fn truncate_file(&mut self, name: FileName, len: u64) -> io::Result<()>
+    /// Truncates the part to `len` bytes, and makes an empty one where there is none. A shorter one is not filled. It has the rights of
+    /// the file that it is to replace from then on.
+    fn truncate_part(&mut self, len: u64) -> io::Result<()>
         ensures { self.new.faults ≡ self.old.faults }
     {
-        self.part = None;
-        let file = OpenOptions::new()
-            .write(true)
-            .create(true)
-            .open(&self.rt, self.names.name_of(name))?;
-        if file.metadata()?.len() < len {
+        self.make_part()?;
+        let Some(part) = &self.part else {
+            return Ok(());
+        };
+        if let Some(older) = self.older_out()? {
+            take_rights(part, &older)?;
+        }
+        if part.metadata()?.len() < len {
             return Err(ErrorKind::UnexpectedEof.into());
         }
-        file.set_len(len)
+        part.set_len(len)
     }
 
     /// Makes a file and its name durable.
     fn make_durable(&self, name: FileName) -> io::Result<()> {
-        match &self.part {
-            Some(part) if name == FileName::Part => part.sync_all()?,
-            _ => sync_file(&self.rt, self.names.name_of(name))?,
+        match (name, &self.part, &self.new_checkpoint) {
+            (FileName::Part, Some(part), _) => part.sync_all()?,
+            (FileName::NewCheckpoint, _, Some(file)) => file.sync_all()?,
+            // It was found when the run began.
+            (FileName::Out, _, _) => match open_to_read(&self.rt, self.name_of(name))? {
+                Some(out) => out.sync_all()?,
+                None => return Err(ErrorKind::NotFound.into()),
+            },
+            _ => sync_own(&self.rt, self.name_of(name))?,
         }
         self.sync_names()
     }
 
-    /// Writes the record of the finished job.
-    fn write_record(&self) -> io::Result<()> {
-        let alloc = self.rt.alloc();
-        let summary = self.summary().unwrap_or(&[]);
-        let ended = seconds_now(&self.rt);
-        let text = self.record.finished(alloc, summary, self.runs, ended)?;
-        let new_record = self.names.new_record.as_str();
-        write_durably(&self.rt, new_record, &text)?;
-        fs::rename(&self.rt, new_record, self.names.record.as_str())
+    /// What the complete output is known by, as the checkpoint says.
+    fn expected(&self) -> Option<Digests> {
+        let (_counts, digests) = split_summary(self.summary()?)?;
+        Some(digests)
     }
 
-    /// Renames a file. The record is written before the part becomes OUT, so that a finished OUT has one.
-    fn rename_file(&mut self, from: FileName, to: FileName) -> io::Result<()>
+    /// Whether the part is the very file that was written, with the length and the digest of the output.
+    fn is_part_written(&mut self) -> io::Result<bool>
         ensures { self.new.faults ≡ self.old.faults }
     {
-        if let FileName::Out = to {
-            self.part = None;
-            self.write_record()?;
+        let (alloc, expected) = (self.rt.alloc(), self.expected());
+        let named = look(&self.rt, self.names.name_of(OwnFile::Part))?.map(|found| file_id(&found));
+        let (Some(part), Some(expected)) = (&mut self.part, expected) else {
+            return Ok(false);
+        };
+        let opened = part.metadata()?;
+        part.seek(SeekFrom::Start(0))?;
+        let mut hash = FileHash::new(false);
+        let (written, digest) = (expected.output.size, expected.output.xxh64);
+        let size = hash_front(alloc, part, &mut hash, written.saturating_add(1))?;
+        Ok(is_own_part(
+            file_id(&opened),
+            named,
+            size,
+            written,
+            hash.xxh64.digest(),
+            digest,
+        ))
+    }
+
+    /// Gives the part the name of the output, with the rights of the file that it replaces. Refused where the part is not what was
+    /// written.
+    fn publish_part(&mut self) -> Result<(), (OwnFile, io::Error)>
+        ensures { self.new.faults ≡ self.old.faults }
+    {
+        match self.is_part_written() {
+            Ok(true) => {}
+            Ok(false) => return Err((OwnFile::Part, changed_part())),
+            Err(error) => return Err((OwnFile::Part, error)),
         }
+        match self.replace_out() {
+            Ok(()) => Ok(()),
+            Err(error) => Err((OwnFile::Out, error)),
+        }
+    }
+
+    /// Renames the part to OUT, with the rights of an older one.
+    fn replace_out(&self) -> io::Result<()> {
+        if let (Some(part), Some(older)) = (&self.part, self.older_out()?) {
+            take_rights(part, &older)?;
+            part.sync_all()?;
+        }
+        self.rename_own(OwnFile::Part, OwnFile::Out)
+    }
+
+    /// Renames a file of the job, and makes the names durable.
+    fn rename_own(&self, from: OwnFile, to: OwnFile) -> io::Result<()> {
         fs::rename(&self.rt, self.names.name_of(from), self.names.name_of(to))?;
         self.sync_names()
     }
-}
 
-/// Removes a file, where there is one.
-pub fn remove_file(rt: &HostRuntime, name: &str) -> io::Result<()> {
-    match fs::remove_file(rt, name) {
-        Ok(()) => Ok(()),
-        Err(error) if error.kind() == ErrorKind::NotFound => Ok(()),
-        Err(error) => Err(error),
+    /// Writes the record of the finished job: its bytes are durable before it gets its name.
+    fn write_record(&self) -> io::Result<()> {
+        let (alloc, names) = (self.rt.alloc(), self.names);
+        let Some((counts, digests)) = split_summary(self.summary().unwrap_or(&[])) else {
+            return Err(ErrorKind::InvalidData.into());
+        };
+        let digests = self.found.unwrap_or(digests);
+        let ended = seconds_now(&self.rt);
+        let text = self
+            .info
+            .record
+            .finished(alloc, counts, &digests, self.info.runs, ended)?;
+        let new_record = names.name_of(OwnFile::NewRecord);
+        remove_own(&self.rt, new_record)?;
+        let mut file = create_own(&self.rt, new_record)?;
+        file.write_all(&text)?;
+        file.sync_all()?;
+        // Another job may have a record of this name.
+        let written = file_id(&file.metadata()?);
+        if look(&self.rt, new_record)?.map(|found| file_id(&found)) != Some(written) {
+            return Err(io::Error::new(
+                ErrorKind::InvalidData,
+                "another job writes a record of this name",
+            ));
+        }
+        fs::rename(&self.rt, new_record, names.name_of(OwnFile::Record))?;
+        sync_folder(&self.rt, names.folder_of(OwnFile::Record))
     }
 }
 
-impl Disk for JobFolder {
+impl Disk for JobFolder<'_> {
     // No contract states what files contain, nor what a crash leaves of them.
     ghost model = { unknown_disk (λ f. f.faults) };
 
@@ -250,49 +389,72 @@ impl Disk for JobFolder {
     fn read(&mut self, alloc: Global, name: FileName) -> Result<Option<Vec<u8>>, DiskFault> {
         let result = match name {
             FileName::Checkpoint => self.read_checkpoint(alloc),
-            _ => read_file(&self.rt, self.names.name_of(name)),
+            _ => read_own(&self.rt, self.name_of(name)),
         };
-        self.counted(name, result)
+        self.counted(own_file(name), result)
     }
 
     fn has(&mut self, name: FileName) -> Result<bool, DiskFault> {
-        let result = fs::exists(&self.rt, self.names.name_of(name));
-        self.counted(name, result)
+        let result = match look(&self.rt, self.name_of(name)) {
+            // Where the run has a part, it has to be there.
+            Ok(None) if name == FileName::Part && self.part.is_some() => Err(changed_part()),
+            Ok(found) => Ok(found.is_some()),
+            Err(error) => Err(error),
+        };
+        self.counted(own_file(name), result)
     }
 
     fn write(&mut self, name: FileName, bytes: &[u8]) -> Result<(), DiskFault> {
         let result = match name {
             FileName::NewCheckpoint => self.write_checkpoint(bytes),
-            _ => fs::write(&self.rt, self.names.name_of(name), bytes),
+            // A run writes no other file anew.
+            _ => Err(ErrorKind::Unsupported.into()),
         };
-        self.counted(name, result)
+        self.counted(own_file(name), result)
     }
 
     fn append(&mut self, name: FileName, bytes: &[u8]) -> Result<(), DiskFault> {
-        let result = self.write_at_end(name, bytes);
-        self.counted(name, result)
+        let result = match name {
+            FileName::Part => self.write_at_end(bytes),
+            _ => Err(ErrorKind::Unsupported.into()),
+        };
+        self.counted(own_file(name), result)
     }
 
     fn truncate(&mut self, name: FileName, len: u64) -> Result<(), DiskFault> {
-        let result = self.truncate_file(name, len);
-        self.counted(name, result)
+        let result = match name {
+            FileName::Part => self.truncate_part(len),
+            _ => Err(ErrorKind::Unsupported.into()),
+        };
+        self.counted(own_file(name), result)
     }
 
     fn sync(&mut self, name: FileName) -> Result<(), DiskFault> {
         let result = self.make_durable(name);
-        self.counted(name, result)
+        self.counted(own_file(name), result)
     }
 
     fn rename(&mut self, from: FileName, to: FileName) -> Result<(), DiskFault> {
-        let result = self.rename_file(from, to);
-        self.counted(to, result)
+        let (file, result) = match from {
+            FileName::Part => match self.publish_part() {
+                Ok(()) => (OwnFile::Out, Ok(())),
+                Err((file, error)) => (file, Err(error)),
+            },
+            _ => (own_file(to), self.rename_own(own_file(from), own_file(to))),
+        };
+        self.counted(file, result)
     }
 
+    /// Removes a file. The record is written before the checkpoint is removed: by then OUT has its name.
     fn remove(&mut self, name: FileName) -> Result<(), DiskFault> {
-        let result = match remove_file(&self.rt, self.names.name_of(name)) {
+        if let FileName::Checkpoint = name {
+            let written = self.write_record();
+            self.counted(OwnFile::Record, written)?;
+        }
+        let result = match remove_own(&self.rt, self.name_of(name)) {
             Ok(()) => self.sync_names(),
             Err(error) => Err(error),
         };
-        self.counted(name, result)
+        self.counted(own_file(name), result)
     }
 }

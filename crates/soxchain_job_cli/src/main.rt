@@ -5,38 +5,79 @@
 #![tactic(auto)]
 
 mod convert;
+mod digests;
 mod fault;
 mod folder;
 mod hashed;
 mod help;
-mod job_file;
+mod input;
 mod lock;
-mod names;
 mod options;
+mod own_files;
 mod pacing;
+mod places;
 mod progress;
 mod record;
 mod resume;
 mod sound_file;
 mod status;
 
-use convert::{Stop, convert};
-use fault::JobFault;
+use convert::convert;
+use fault::{JobFault, Stop};
 use fx_frame::{ByteOut, Counted};
 use fx_plan::{CommandLine, Endpoint, parse_line};
 use help::HELP;
-use names::JobNames;
 use options::{Options, Task, read_options};
 use soxchain::inner::{MessageWriter, refuse_line, tell_cannot_open};
 use soxchain_common::{Console, VERSION, answer_to, fault_of};
+use soxchain_job_rules::{JobNames, NamesFault};
 use status::{abandon, show_status};
 use std::process::ExitCode;
 
 /// The names of IN and OUT.
 fn named<'a>(line: &'a CommandLine) -> Result<(&'a str, &'a str), JobFault<'a>> {
     match (line.input(), line.output()) {
+        (Endpoint::Named(_), Endpoint::Named("")) => Err(JobFault::NotAFile("")),
         (Endpoint::Named(input), Endpoint::Named(output)) => Ok((input, output)),
         _ => Err(JobFault::StandardStream),
+    }
+}
+
+/// Does what the options ask for, and returns the status.
+fn do_task<'a, M: ByteOut>(
+    host: &mut HostRuntime,
+    options: &'a Options<'a>,
+    line: &'a CommandLine,
+    input: &'a str,
+    names: &'a JobNames,
+    message_writer: &mut MessageWriter<M>,
+) -> Result<u8, Stop<'a>> {
+    match options.task {
+        Task::Convert => {
+            convert(host, options, line, input, names, message_writer)?;
+            Ok(0)
+        }
+        Task::Status => Ok(show_status(host, options.line, names)?),
+        Task::Abandon => {
+            abandon(host, line, input, names)?;
+            Ok(0)
+        }
+    }
+}
+
+/// Executes a command line for a job of these names, and returns the status.
+fn work_job<M: ByteOut>(
+    host: &mut HostRuntime,
+    options: &Options<'_>,
+    line: &CommandLine,
+    input: &str,
+    names: &JobNames,
+    message_writer: &mut MessageWriter<M>,
+) -> u8 {
+    match do_task(host, options, line, input, names, message_writer) {
+        Ok(status) => status,
+        Err(Stop::Reported(status)) => status,
+        Err(Stop::Fault(fault)) => fault.tell(host),
     }
 }
 
@@ -51,18 +92,10 @@ fn work_line<M: ByteOut>(
         Ok(both) => both,
         Err(fault) => return fault.tell(host),
     };
-    let Ok(names) = JobNames::of(host.alloc(), output, options.record) else {
-        return JobFault::Memory.tell(host);
-    };
-    let result = match options.task {
-        Task::Convert => convert(host, options, line, input, &names, message_writer),
-        Task::Status => show_status(host, &names).map_err(Stop::Fault),
-        Task::Abandon => abandon(host, &names).map_err(Stop::Fault),
-    };
-    match result {
-        Ok(()) => 0,
-        Err(Stop::Reported(status)) => status,
-        Err(Stop::Fault(fault)) => fault.tell(host),
+    match JobNames::of(host.alloc(), output, options.record) {
+        Ok(names) => work_job(host, options, line, input, &names, message_writer),
+        Err(NamesFault::Memory) => JobFault::Memory.tell(host),
+        Err(NamesFault::RecordIs(file)) => JobFault::RecordIs(file).tell(host),
     }
 }
 

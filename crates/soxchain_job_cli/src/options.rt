@@ -24,11 +24,13 @@ pub enum Task {
 #[derive(Clone, Copy, Drop)]
 pub struct Options<'a> {
     pub task: Task,
-    /// Seconds between two checkpoints; 0 for one after each piece.
+    /// Seconds between two checkpoints; 0 for one as often as it takes no longer than converting.
     pub seconds: u64,
     /// The name of the record, where it is not OUT.job.json.
     pub record: Option<&'a str>,
     pub progress: ShowProgress,
+    /// Whether the record is to have the SHA-256 of both files.
+    pub has_sha256: bool,
     pub line: &'a [String],
 }
 
@@ -109,6 +111,7 @@ pub fn read_options<'a>(words: &'a [String]) -> Result<Options<'a>, OptionFault<
         seconds: DEFAULT_SECONDS,
         record: None,
         progress: ShowProgress::Auto,
+        has_sha256: false,
         line: &[],
     };
     let mut waiting: Option<&'a str> = None;
@@ -122,6 +125,7 @@ pub fn read_options<'a>(words: &'a [String]) -> Result<Options<'a>, OptionFault<
         match word {
             "--status" => options.task = Task::Status,
             "--abandon" => options.task = Task::Abandon,
+            "--sha256" => options.has_sha256 = true,
             "--every" | "--record" | "--progress" => waiting = Some(word),
             "--help" | "--version" => return Err(OptionFault::NotAlone(word)),
             _ if word.starts_with("--") => return Err(OptionFault::Unknown(word)),

@@ -1,23 +1,31 @@
 //! How often a checkpoint is written.
-ghost use Rattle.std.specs.Prelude.{◌<◌};
 
 use soxchain_job::{Offsets, Pace, Pacing};
-use std::time::{Duration, Instant};
+use soxchain_job_rules::{Round, next_pieces};
+use std::time::Instant;
 
 /// The bytes of a piece.
 pub const PIECE_SIZE: usize = 1 << 16;
 
-/// The pieces before the second checkpoint, whose time says how many come before the others.
-const FIRST_PIECES: u64 = 64;
+/// The microseconds of a second.
+const SECOND: u64 = 1_000_000;
 
-/// Counts how long the pieces between two checkpoints take, and says how many come before the next one.
+/// Measures how long the pieces of a round take and how long its checkpoint, and says how many pieces the next one has.
 #[derive(Drop)]
 pub struct Pacer {
     rt: HostRuntime,
-    /// The time wanted between two checkpoints.
-    interval: Duration,
-    /// When the last pieces began, and how many they were.
-    last: Option<(Instant, u64)>,
+    /// The microseconds wanted between two checkpoints.
+    interval: u64,
+    /// The pieces of the last round.
+    pieces: u64,
+    /// When they began, and when they were converted.
+    began: Option<Instant>,
+    converted: Option<Instant>,
+}
+
+/// The microseconds from one moment to a later one.
+fn microseconds(from: Instant, to: Instant) -> u64 {
+    u64::try_from(to.saturating_duration_since(from).as_micros()).unwrap_or(u64::MAX)
 }
 
 impl Pacer {
@@ -25,38 +33,38 @@ impl Pacer {
     pub fn new(rt: HostRuntime, seconds: u64) -> Pacer {
         Pacer {
             rt,
-            interval: Duration::from_secs(seconds),
-            last: None,
+            interval: seconds.saturating_mul(SECOND),
+            pieces: 0,
+            began: None,
+            converted: None,
         }
     }
 
-    /// How many pieces take about the wanted time, as far as the last ones tell: at most four times as many as those.
-    fn pieces(&self, now: Instant) -> u64
-        ensures { 0 < result }
-    {
-        let Some((began, pieces)) = self.last else {
-            return FIRST_PIECES;
-        };
-        let taken = now.saturating_duration_since(began).as_micros().max(1);
-        let fitting = u128::from(pieces).saturating_mul(self.interval.as_micros()) / taken;
-        let fitting = u64::try_from(fitting).unwrap_or(u64::MAX);
-        fitting.min(pieces.saturating_mul(4)).max(1)
+    /// The last round, which ended at this moment; None before the first one.
+    fn last_round(&self, now: Option<Instant>) -> Option<Round> {
+        let (began, converted) = (self.began?, self.converted?);
+        Some(Round {
+            pieces: self.pieces,
+            converting: microseconds(began, converted),
+            checkpoint: microseconds(converted, now?),
+        })
     }
 }
 
 impl Pacing for Pacer {
     fn next(&mut self, _offsets: &Offsets) -> Pace {
-        let every = match Instant::now(&self.rt) {
-            Ok(now) if !self.interval.is_zero() => {
-                let pieces = self.pieces(now);
-                self.last = Some((now, pieces));
-                pieces
-            }
-            _ => 1,
-        };
+        let now = Instant::now(&self.rt).ok();
+        let every = next_pieces(self.last_round(now), self.interval);
+        self.pieces = every;
+        self.began = now;
+        self.converted = None;
         Pace {
             piece: PIECE_SIZE,
             every,
         }
+    }
+
+    fn converted(&mut self) {
+        self.converted = Instant::now(&self.rt).ok();
     }
 }

@@ -1,7 +1,6 @@
 //! The record of a finished job, as JSON.
 
-use crate::hashed::DIGESTS_SIZE;
-use crate::job_file::{FORMAT_VERSION, Runs, list_of};
+use crate::digests::{Digests, FileDigest};
 use byteorder::{ByteOrder, LittleEndian};
 use fx_chain::Report;
 use fx_frame::Coding;
@@ -9,9 +8,11 @@ use fx_plan::Plan;
 use fx_sound::Kind;
 use hex::encode;
 use jiff::Timestamp;
-use serde_json::{Value, json};
+use serde_json::{Map, Value};
 use soxchain_common::VERSION;
+use soxchain_job_file::Runs;
 use std::alloc::{AllocError, Global};
+use std::time::{SystemTime, UNIX_EPOCH};
 
 /// What a record says of a sound, beside its frames and its digest.
 #[derive(Clone, Copy, Debug, Drop)]
@@ -32,11 +33,69 @@ pub struct RecordBase {
     pub effects: Vec<&'static str>,
     /// The frames that the chain may hold.
     pub hold: u64,
+    /// Whether it is to have the SHA-256 of both files.
+    pub has_sha256: bool,
+}
+
+/// The version of the form of a record.
+const RECORD_VERSION: u64 = 2;
+
+/// Members of a JSON object.
+type Members = Map<String, Value>;
+
+/// The seconds since 1970; 0 where the clock is before that.
+pub fn seconds_now(rt: &HostRuntime) -> u64 {
+    match SystemTime::now(rt) {
+        Ok(now) => now
+            .duration_since(UNIX_EPOCH)
+            .map_or(0, |since| since.as_secs()),
+        Err(_) => 0,
+    }
+}
+
+/// Adds a member.
+fn add(alloc: Global, members: &mut Members, name: &str, value: Value) -> Result<(), AllocError> {
+    members.insert(String::from_str(alloc, name)?, value)?;
+    Ok(())
+}
+
+/// Adds a number.
+fn add_number(
+    alloc: Global,
+    members: &mut Members,
+    name: &str,
+    number: u64,
+) -> Result<(), AllocError> {
+    add(alloc, members, name, Value::from(number))
+}
+
+/// Adds a text.
+fn add_text(
+    alloc: Global,
+    members: &mut Members,
+    name: &str,
+    text: &str,
+) -> Result<(), AllocError> {
+    add(alloc, members, name, Value::try_from_str(alloc, text)?)
+}
+
+/// Texts as JSON.
+fn list_of(alloc: Global, texts: &[String]) -> Result<Value, AllocError> {
+    let mut list = Vec::new(alloc);
+    for text in texts {
+        list.push(Value::try_from_str(alloc, text.as_str())?)?;
+    }
+    Ok(Value::Array(list))
 }
 
 impl RecordBase {
     /// That of a plan.
-    pub fn of(alloc: Global, words: &[String], plan: &Plan) -> Result<RecordBase, AllocError> {
+    pub fn of(
+        alloc: Global,
+        words: &[String],
+        plan: &Plan,
+        has_sha256: bool,
+    ) -> Result<RecordBase, AllocError> {
         let mut texts = Vec::new(alloc);
         for word in words {
             texts.push(word.clone()?)?;
@@ -62,6 +121,7 @@ impl RecordBase {
             },
             effects,
             hold: plan.hold(),
+            has_sha256,
         })
     }
 
@@ -69,56 +129,99 @@ impl RecordBase {
     fn clips(&self, alloc: Global, report: &Report) -> Result<Value, AllocError> {
         let mut list = Vec::new(alloc);
         for (effect, samples) in self.effects.iter().zip(report.clips.iter()) {
-            list.push(json!(in alloc; {"effect": *effect, "samples": *samples})?)?;
+            let mut clips = Map::new(alloc);
+            add_text(alloc, &mut clips, "effect", effect)?;
+            add_number(alloc, &mut clips, "samples", *samples)?;
+            list.push(Value::Object(clips))?;
         }
         Ok(Value::Array(list))
     }
 
-    /// The record of a job that ended at this second, from the summary of its conversion.
+    /// Adds what the job was: its words, the programs' versions, its runs and times.
+    fn add_job(
+        &self,
+        alloc: Global,
+        members: &mut Members,
+        runs: Runs,
+        ended: u64,
+    ) -> Result<(), AllocError> {
+        add_number(alloc, members, "soxchain-job", RECORD_VERSION)?;
+        let version = VERSION.lines().next().unwrap_or("");
+        add_text(alloc, members, "version", version)?;
+        add(alloc, members, "words", list_of(alloc, &self.words)?)?;
+        add_number(alloc, members, "runs", runs.count)?;
+        let began = time_text(alloc, runs.began)?;
+        add_text(alloc, members, "began", began.as_str())?;
+        let ended = time_text(alloc, ended)?;
+        add_text(alloc, members, "ended", ended.as_str())
+    }
+
+    /// Adds what the conversion counted.
+    fn add_counts(
+        &self,
+        alloc: Global,
+        members: &mut Members,
+        report: &Report,
+    ) -> Result<(), AllocError> {
+        add_number(alloc, members, "hold", self.hold)?;
+        add(alloc, members, "clips", self.clips(alloc, report)?)?;
+        add_number(alloc, members, "output_clips", report.out_clips)?;
+        add_number(alloc, members, "missing", report.missing)?;
+        add_number(alloc, members, "stray", report.stray)
+    }
+
+    /// The record of a job that ended at this second, from the counts of its conversion and the digests of both files.
     pub fn finished(
         &self,
         alloc: Global,
-        summary: &[u8],
+        counts: &[u8],
+        digests: &Digests,
         runs: Runs,
         ended: u64,
     ) -> Result<Vec<u8>, AllocError> {
-        let size = summary.len().saturating_sub(DIGESTS_SIZE);
-        let (counts, digests) = summary.split_at(size);
-        let (input, output) = digests.split_at(digests.len() / 2);
         let report = report_of(counts);
-        let value = json!(in alloc; {
-            "soxchain-job": FORMAT_VERSION,
-            "version": VERSION.lines().next().unwrap_or(""),
-            "words": list_of(alloc, &self.words)?,
-            "input": self.input.to_json(alloc, report.frames_in, input)?,
-            "output": self.output.to_json(alloc, report.frames_out, output)?,
-            "hold": self.hold,
-            "clips": self.clips(alloc, &report)?,
-            "output_clips": report.out_clips,
-            "missing": report.missing,
-            "stray": report.stray,
-            "runs": runs.count,
-            "began": time_text(alloc, runs.began)?,
-            "ended": time_text(alloc, ended)?
-        })?;
-        let mut text = value.to_string_pretty(alloc)?;
+        let has_sha256 = self.has_sha256;
+        let mut members = Map::new(alloc);
+        self.add_job(alloc, &mut members, runs, ended)?;
+        self.add_counts(alloc, &mut members, &report)?;
+        let input = self
+            .input
+            .to_json(alloc, report.frames_in, &digests.input, has_sha256)?;
+        add(alloc, &mut members, "input", input)?;
+        let output = self
+            .output
+            .to_json(alloc, report.frames_out, &digests.output, has_sha256)?;
+        add(alloc, &mut members, "output", output)?;
+        let mut text = Value::Object(members).to_string_pretty(alloc)?;
         text.push('\n')?;
         Ok(text.into_bytes())
     }
 }
 
 impl SoundFormat {
-    /// A sound of this format with so many frames, and the digest of its file.
-    fn to_json(self, alloc: Global, frames: u64, digest: &[u8]) -> Result<Value, AllocError> {
-        let digest = encode(alloc, digest)?;
-        json!(in alloc; {
-            "kind": kind_name(self.kind),
-            "rate": self.rate,
-            "channels": self.channels as u64,
-            "bits": 8 * self.coding.width() as u64,
-            "frames": frames,
-            "sha256": &digest
-        })
+    /// A sound of this format with so many frames, and what its file is known by.
+    fn to_json(
+        self,
+        alloc: Global,
+        frames: u64,
+        digest: &FileDigest,
+        has_sha256: bool,
+    ) -> Result<Value, AllocError> {
+        let mut members = Map::new(alloc);
+        add_text(alloc, &mut members, "kind", kind_name(self.kind))?;
+        add_number(alloc, &mut members, "rate", u64::from(self.rate))?;
+        add_number(alloc, &mut members, "channels", self.channels as u64)?;
+        let bits = 8 * self.coding.width() as u64;
+        add_number(alloc, &mut members, "bits", bits)?;
+        add_number(alloc, &mut members, "frames", frames)?;
+        add_number(alloc, &mut members, "bytes", digest.size)?;
+        let xxh64 = encode(alloc, digest.xxh64.to_be_bytes())?;
+        add_text(alloc, &mut members, "xxh64", xxh64.as_str())?;
+        if has_sha256 {
+            let sha256 = encode(alloc, digest.sha256)?;
+            add_text(alloc, &mut members, "sha256", sha256.as_str())?;
+        }
+        Ok(Value::Object(members))
     }
 }
 

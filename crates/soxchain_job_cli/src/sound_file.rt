@@ -1,39 +1,73 @@
 //! IN as the input of a job.
-ghost use Rattle.std.specs.Prelude.{◌≡◌};
+ghost use Rattle.std.specs.Prelude.{◌≡◌, ◌<◌, ◌≤◌, true};
 ghost use Rattle.soxchain_job.specs.Unknown.{unknown_input};
 
+use crate::own_files::file_id;
 use crate::progress::ProgressLine;
 use soxchain_job::{Input, InputFault};
-use std::fs::File;
-use std::io::{self, Read, Seek, SeekFrom};
+use soxchain_job_rules::{InputCheck, InputState, Stamp, input_check};
+use std::fs::{self, File, Metadata};
+use std::io::{self, ErrorKind};
+use std::os::unix::fs::{FileExt, MetadataExt};
+
+/// A time of the system: seconds since 1970, before that negative, and nanoseconds.
+fn stamp(seconds: i64, nanoseconds: i64) -> Stamp {
+    Stamp {
+        seconds,
+        nanoseconds: u32::try_from(nanoseconds).unwrap_or(0),
+    }
+}
+
+/// What the system says of IN.
+pub fn state_of(found: &Metadata) -> InputState {
+    InputState {
+        file: file_id(found),
+        size: found.len(),
+        modified: stamp(found.mtime(), found.mtime_nsec()),
+        changed: stamp(found.ctime(), found.ctime_nsec()),
+    }
+}
 
 /// A file that is read from any place, and the line of progress.
 #[derive(Drop)]
-pub struct SoundFile {
+pub struct SoundFile<'a> {
+    rt: HostRuntime,
+    name: &'a str,
     file: File,
-    /// Its bytes, as the system said when it was opened.
-    size: u64,
+    /// What the system said of it when it was opened.
+    before: InputState,
     delivered: u64,
     failures: u64,
+    /// It was found to be as it was, after its last read.
+    is_confirmed: bool,
     progress: Option<ProgressLine>,
-    /// Why the last read failed.
+    /// Why the last call failed.
     error: Option<io::Error>,
 }
 
-impl SoundFile {
-    /// An opened file of this size.
-    pub fn new(file: File, size: u64, progress: Option<ProgressLine>) -> SoundFile {
+impl<'a> SoundFile<'a> {
+    /// An opened file of this name, and what the system said of it then.
+    pub fn new(
+        rt: HostRuntime,
+        name: &'a str,
+        file: File,
+        before: InputState,
+        progress: Option<ProgressLine>,
+    ) -> SoundFile<'a> {
         SoundFile {
+            rt,
+            name,
             file,
-            size,
+            before,
             delivered: 0,
             failures: 0,
+            is_confirmed: false,
             progress,
             error: None,
         }
     }
 
-    /// Why the last read failed.
+    /// Why the last call failed.
     pub fn into_error(self) -> Option<io::Error> {
         self.error
     }
@@ -47,7 +81,7 @@ impl SoundFile {
 
     /// Shows the progress at this byte of IN.
     fn show(&mut self, at: u64)
-        ensures size { self.new.size ≡ self.old.size }
+        ensures size { self.new.before.size ≡ self.old.before.size }
         ensures delivered { self.new.delivered ≡ self.old.delivered }
         ensures failures { self.new.failures ≡ self.old.failures }
     {
@@ -56,32 +90,46 @@ impl SoundFile {
         }
     }
 
-    /// Reads a piece from this place.
-    fn read_at(&mut self, at: u64, bytes: &mut [u8]) -> io::Result<()>
-        ensures size { self.new.size ≡ self.old.size }
+    /// Whether IN is still the file that it was: the open one, and the one of its name.
+    fn is_unchanged(&self) -> io::Result<bool> {
+        let opened = state_of(&self.file.metadata()?);
+        let named = state_of(&fs::metadata(&self.rt, self.name)?);
+        let is_same = input_check(&self.before, &opened) == InputCheck::Same;
+        Ok(is_same && input_check(&self.before, &named) == InputCheck::Same)
+    }
+
+    /// Counts a call that failed. Memory is answered where no count is left: 2^64 calls never fail.
+    fn fail(&mut self, error: io::Error) -> InputFault
+        ensures size { self.new.before.size ≡ self.old.before.size }
         ensures delivered { self.new.delivered ≡ self.old.delivered }
-        ensures failures { self.new.failures ≡ self.old.failures }
+        ensures later { self.old.failures ≤ self.new.failures }
+        ensures failed { result ≡ InputFault.Failed → self.old.failures < self.new.failures }
+        ensures named { result ≡ InputFault.Changed → ⊥ }
     {
-        self.file.seek(SeekFrom::Start(at))?;
-        self.file.read_exact(bytes)
+        let Some(failures) = self.failures.checked_add(1) else {
+            return InputFault::Memory;
+        };
+        self.failures = failures;
+        self.error = Some(error);
+        InputFault::Failed
     }
 }
 
-impl Input for SoundFile {
+impl Input for SoundFile<'_> {
     // No contract states what a file contains.
-    ghost model = { unknown_input (λ s. s.size) (λ s. s.delivered) (λ s. s.failures) };
+    ghost model = { unknown_input (λ s. s.before.size) (λ s. s.delivered) (λ s. s.failures) (λ s. s.is_confirmed ≡ true) };
 
     ghost sized = { λ k. absurd k };
 
     fn len(&self) -> u64 {
-        self.size
+        self.before.size
     }
 
     fn read(&mut self, at: u64, count: usize, piece: &mut Vec<u8>) -> Result<(), InputFault> {
-        // Memory is answered where no count is left: no file has 2^64 bytes, and 2^64 reads never fail.
-        let (Some(delivered), Some(failures), Some(end)) = (
+        self.is_confirmed = false;
+        // Memory is answered where no count is left: no file has 2^64 bytes.
+        let (Some(delivered), Some(end)) = (
             self.delivered.checked_add(count as u64),
-            self.failures.checked_add(1),
             piece.len().checked_add(count),
         ) else {
             return Err(InputFault::Memory);
@@ -90,17 +138,26 @@ impl Input for SoundFile {
         let Ok(()) = piece.resize(end, 0) else {
             return Err(InputFault::Memory);
         };
-        match self.read_at(at, &mut piece[start..]) {
+        match self.file.read_exact_at(&mut piece[start..], at) {
             Ok(()) => {
                 self.delivered = delivered;
                 self.show(at.saturating_add(count as u64));
                 Ok(())
             }
-            Err(error) => {
-                self.failures = failures;
-                self.error = Some(error);
-                Err(InputFault::Failed)
+            // It has become shorter.
+            Err(error) if error.kind() == ErrorKind::UnexpectedEof => Err(InputFault::Changed),
+            Err(error) => Err(self.fail(error)),
+        }
+    }
+
+    fn confirm(&mut self) -> Result<(), InputFault> {
+        match self.is_unchanged() {
+            Ok(true) => {
+                self.is_confirmed = true;
+                Ok(())
             }
+            Ok(false) => Err(InputFault::Changed),
+            Err(error) => Err(self.fail(error)),
         }
     }
 }

@@ -1,7 +1,7 @@
 //! A disk and an input of whose bytes nothing is stated, as those of a system. One call of them fails, or the first write for which
 //! there is no space; the disk has then done half of it.
 ghost use Rattle.soxchain_job.specs.Unknown.{unknown_disk, unknown_input};
-ghost use Rattle.std.specs.Prelude.{◌<◌, ◌≤◌, ◌+◌, IsErrOf, IsTrue, OnOk, length};
+ghost use Rattle.std.specs.Prelude.{◌≡◌, ◌<◌, ◌≤◌, ◌+◌, IsErrOf, IsTrue, OnOk, length, true};
 ghost use Rattle.std.proofs.Common.{arith};
 
 use soxchain_job::{Disk, DiskFault, FileName, Files, Input, InputFault};
@@ -203,10 +203,14 @@ pub struct FailingInput {
     pub calls: Calls,
     /// How many bytes it has delivered.
     pub delivered: u64,
+    /// Whether it is found to be another one when it is to be confirmed.
+    pub is_changed: bool,
+    /// It was confirmed after its last read.
+    pub is_confirmed: bool,
 }
 
 impl Input for FailingInput {
-    ghost model = { unknown_input (λ i. length i.bytes.items) (λ i. i.delivered) (λ i. i.calls.failed) };
+    ghost model = { unknown_input (λ i. length i.bytes.items) (λ i. i.delivered) (λ i. i.calls.failed) (λ i. i.is_confirmed ≡ true) };
 
     ghost sized = { λ k. absurd k };
 
@@ -215,6 +219,7 @@ impl Input for FailingInput {
     }
 
     fn read(&mut self, at: u64, count: usize, piece: &mut Vec<u8>) -> Result<(), InputFault> {
+        self.is_confirmed = false;
         if self.calls.fails() {
             return Err(InputFault::Failed);
         }
@@ -229,6 +234,17 @@ impl Input for FailingInput {
             return Err(InputFault::Memory);
         }
         self.delivered = delivered;
+        Ok(())
+    }
+
+    fn confirm(&mut self) -> Result<(), InputFault> {
+        if self.calls.fails() {
+            return Err(InputFault::Failed);
+        }
+        if self.is_changed {
+            return Err(InputFault::Changed);
+        }
+        self.is_confirmed = true;
         Ok(())
     }
 }

@@ -45,6 +45,8 @@ fn input_of(alloc: Global, left: u32) -> Result<FailingInput, &'static str> {
         bytes,
         calls: Calls::new(left),
         delivered: 0,
+        is_changed: false,
+        is_confirmed: false,
     })
 }
 
@@ -225,10 +227,36 @@ fn a_disk_that_fails_at_each_call(rt: HostRuntime) -> Result<(), &'static str> {
     Ok(())
 }
 
+/// An input that is another one at the end of a run: nothing gets the name of the output. Once it is what it was, a run ends.
+#[test]
+fn an_input_that_changes(rt: HostRuntime) -> Result<(), &'static str> {
+    let alloc = rt.alloc();
+    let mut disk = FailingDisk::new(alloc, MANY);
+    let mut input = input_of(alloc, MANY)?;
+    input.is_changed = true;
+    for _run in 0..2 {
+        if run(alloc, &mut disk, &mut input) != Err(Fault::InputChanged) {
+            return Err("the change of the input is not reported");
+        }
+        if disk.files.out.is_some() {
+            return Err("there is an output");
+        }
+    }
+    input.is_changed = false;
+    if run(alloc, &mut disk, &mut input).is_err() {
+        return Err("the last run does not end");
+    }
+    if !is_complete(&disk.files) {
+        return Err("the output is not complete");
+    }
+    Ok(())
+}
+
+/// The input fails at each of eight reads in turn, and when it is to be confirmed.
 #[test]
 fn an_input_that_fails_at_each_read(rt: HostRuntime) -> Result<(), &'static str> {
     let alloc = rt.alloc();
-    for left in 0..8 {
+    for left in 0..9 {
         let mut disk = FailingDisk::new(alloc, MANY);
         let mut input = input_of(alloc, left)?;
         if run(alloc, &mut disk, &mut input) != Err(Fault::Input) {

@@ -37,7 +37,7 @@ loop-preserved g c =
     (run.before (g.D.Disk.model.began c.loop.disk) i (g.met.D.Disk.begun c.loop.disk) (subst (λ (t : ℕ). g.D.Disk.model.left_since c.run_once-interrupted.new.disk t i) run.same_run left)) in
     let safe : (i : Image) → g.D.Disk.model.may_leave c.crash.new.self i → IsRecoverable g.C.Conversion.model g.job i = λ i now. found i (c.crash.ensures.leaves c.requires.1.1.1.1.0.0 i now) in
     record {
-      content = c.run_once-interrupted.ensures.reads.bytes.content c.requires.1.1.1.1.0.1 ∙ c.loop.invariant.content;
+      content = c.run_once-interrupted.ensures.reads.bound.bytes.content c.requires.1.1.1.1.0.1 ∙ c.loop.invariant.content;
       failures = omega (arith, c.loop.invariant.failures, c.run_once-interrupted.ensures.cause.failures);
       faults = omega (arith, c.loop.invariant.faults, c.run_once-interrupted.ensures.cause.faults, c.crash.ensures.faults);
       sound = λ i left. safe i (g.met.D.Disk.only_now c.crash.new.self i (subst (λ (t : ℕ). g.D.Disk.model.left_since c.crash.new.self t i) (c.crash.ensures.began c.requires.1.1.1.1.0.0) left));

@@ -4,10 +4,10 @@ use Rattle.soxchain_job.specs.Disk.{Durable, LeavesNow}
 use Rattle.soxchain_job.specs.Known.{BothKnown}
 use Rattle.soxchain_job.specs.declared.disk.FileName.TheVariants as FileNames
 use Rattle.soxchain_job.specs.Image.{Image, contents_of}
-use Rattle.soxchain_job.specs.Job.{IsGrowing, IsRecoverable, IsReady}
+use Rattle.soxchain_job.specs.Job.{IsGrowing, IsRecoverable}
 use Rattle.soxchain_job.proofs.Ending.{Decoded, decoded, in_progress_is, growing_none, growing_some, is_ready, none_is, complete_is, unreached}
 use Rattle.soxchain_job.proofs.Calls.{joined}
-use Rattle.soxchain_job.proofs.Leaving.{ending_safe, found_recoverable, found_safe, growing_safe}
+use Rattle.soxchain_job.proofs.Leaving.{found_recoverable, found_safe, growing_safe}
 use Rattle.soxchain_job.proofs.run.resume.Goals as goal
 
 pub returns-in_err-read_checkpoint-clause-any_moment : goal.returns-in_err-read_checkpoint-clause-any_moment
@@ -43,24 +43,18 @@ returns-in-None-decode-clause-readable g c = λ k.
     decoded g.C.Conversion.model g.job c.in-Some.bytes.items _ c.decode.result (g.D.Disk.model.seen c.read_checkpoint.new.disk) (recoverable (g.D.Disk.model.seen c.read_checkpoint.new.disk) (g.met.D.Disk.shows c.read_checkpoint.new.disk)) checkpoint c.deref.ensures.value c.decode.ensures.in_progress c.decode.ensures.complete in
     absurd (none_is c.in-Some.bytes.items (rw c.in-None-decode.is at read))
 
-pub publish-requires : goal.publish-requires
-publish-requires g c κs within =
-    let ready : BothKnown g.D.Disk.model g.I.Input.model → LeavesNow g.D.Disk.model c.read_checkpoint.new.disk (IsReady g.C.Conversion.model g.job) = λ k i now.
+pub returns-in-Some-Complete-clause-live : goal.returns-in-Some-Complete-clause-live
+returns-in-Some-Complete-clause-live g c = λ k i now.
     let recoverable = found_recoverable g.C.Conversion.model g.D.Disk.model g.job g.met.D.Disk.counts_now (c.read_checkpoint.ensures.any_moment k.0) (c.requires.1.1.1.1 k) in
     let checkpoint : (g.D.Disk.model.seen c.read_checkpoint.new.disk).checkpoint ≡ Some c.in-Some.bytes.items = rw c.in-Some.is at (c.in_ok-read_checkpoint.ensures.found k.0) in
     let read : Decoded c.in-Some.bytes.items c.decode.result =
     decoded g.C.Conversion.model g.job c.in-Some.bytes.items _ c.decode.result (g.D.Disk.model.seen c.read_checkpoint.new.disk) (recoverable (g.D.Disk.model.seen c.read_checkpoint.new.disk) (g.met.D.Disk.shows c.read_checkpoint.new.disk)) checkpoint c.deref.ensures.value c.decode.ensures.in_progress c.decode.ensures.complete in
     let is = complete_is c.in-Some.bytes.items (rw (c.in-Some-Complete.is, c.in-Some-Complete.field-0-is) at read) in
-    is_ready g.C.Conversion.model g.job _ i (recoverable i now) (c.in_ok-read_checkpoint.ensures.durable k.0 i now ∙ checkpoint ∙ ap (λ (l : List ℕ). Some l) is) in
-    search rules
-
-pub returns-in_err-publish-in-Some-Complete-clause-any_moment : goal.returns-in_err-publish-in-Some-Complete-clause-any_moment
-returns-in_err-publish-in-Some-Complete-clause-any_moment g c = λ k.
-    joined (found_safe g.C.Conversion.model g.D.Disk.model g.job (c.read_checkpoint.ensures.any_moment k.0) (c.requires.1.1.1.1 k)) (ending_safe g.C.Conversion.model g.D.Disk.model g.job (c.publish.ensures.any_moment k))
+    is_ready g.C.Conversion.model g.job _ i (recoverable i now) (c.in_ok-read_checkpoint.ensures.durable k.0 i now ∙ checkpoint ∙ ap (λ (l : List ℕ). Some l) is)
 
 pub returns-in-Some-Complete-clause-any_moment : goal.returns-in-Some-Complete-clause-any_moment
 returns-in-Some-Complete-clause-any_moment g c = λ k.
-    joined (found_safe g.C.Conversion.model g.D.Disk.model g.job (c.read_checkpoint.ensures.any_moment k.0) (c.requires.1.1.1.1 k)) (ending_safe g.C.Conversion.model g.D.Disk.model g.job (c.publish.ensures.any_moment k))
+    found_safe g.C.Conversion.model g.D.Disk.model g.job (c.read_checkpoint.ensures.any_moment k.0) (c.requires.1.1.1.1 k)
 
 pub resume_from-requires : goal.resume_from-requires
 resume_from-requires g c κs within =

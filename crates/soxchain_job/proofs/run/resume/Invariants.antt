@@ -5,6 +5,3 @@ ghost-begin g a = g.job
 
 abbrev pub ghost-resume_from : goal.ghost-resume_from
 ghost-resume_from g a = g.job
-
-abbrev pub ghost-publish : goal.ghost-publish
-ghost-publish g a = g.job

@@ -1,4 +1,4 @@
-use Rattle.std.proofs.Common.{◌∙◌, ap, length, rules}
+use Rattle.std.proofs.Common.{◌∙◌, ◌+◌, ◌-◌, ◌≤◌, ap, length, arith, rules}
 use Rattle.soxchain_job.specs.Known.{BothKnown}
 use Rattle.soxchain_job.specs.Image.{Image}
 use Rattle.soxchain_job.specs.Job.{IsGrowing, IsLive}
@@ -8,8 +8,12 @@ use Rattle.soxchain_job.proofs.Leaving.{growing_safe}
 use Rattle.soxchain_job.proofs.run.run_once.Goals as goal
 
 pub returns-in_default-clause-published : goal.returns-in_default-clause-published
-returns-in_default-clause-published g c = λ k.
-    rw c.in_default.is at (c.in_ok-offsets.ensures.live k)
+returns-in_default-clause-published g c =
+    c.publish_confirmed.ensures.published
+
+pub returns-in_default-clause-any_moment : goal.returns-in_default-clause-any_moment
+returns-in_default-clause-any_moment g c = λ k.
+    joined (c.resume.ensures.any_moment k) (c.publish_confirmed.ensures.any_moment k)
 
 pub convert_rest-requires : goal.convert_rest-requires
 convert_rest-requires g c κs within =
@@ -49,10 +53,12 @@ pub returns-in_err-finish-clause-delivered : goal.returns-in_err-finish-clause-d
 returns-in_err-finish-clause-delivered g c = λ k.
     let continues = rw c.in-Some.is at (c.in_ok-offsets.ensures.continues k) in
     let live = rw c.in-Some.is at (c.in_ok-offsets.ensures.live k) in
-    reads_rest _ c.in-Some.offsets _ _ (g.met.I.Input.sized k.1 c.args.input.now ∙ ap length (c.requires.1.1.1.1.1.0 k.1)) live.0.within continues c.convert_rest.ensures.reads.delivered
+    let bound : g.I.Input.model.delivered c.finish.new.input ≤ g.I.Input.model.delivered c.args.input.now + (g.I.Input.model.size c.args.input.now - c.in-Some.offsets.taken) = omega (arith, c.convert_rest.ensures.reads.delivered, c.finish.ensures.reads.bound.delivered) in
+    reads_rest _ c.in-Some.offsets _ _ (g.met.I.Input.sized k.1 c.args.input.now ∙ ap length (c.requires.1.1.1.1.1.0 k.1)) live.0.within continues bound
 
 pub returns-clause-delivered : goal.returns-clause-delivered
 returns-clause-delivered g c = λ k.
     let continues = rw c.in-Some.is at (c.in_ok-offsets.ensures.continues k) in
     let live = rw c.in-Some.is at (c.in_ok-offsets.ensures.live k) in
-    reads_rest _ c.in-Some.offsets _ _ (g.met.I.Input.sized k.1 c.args.input.now ∙ ap length (c.requires.1.1.1.1.1.0 k.1)) live.0.within continues c.convert_rest.ensures.reads.delivered
+    let bound : g.I.Input.model.delivered c.finish.new.input ≤ g.I.Input.model.delivered c.args.input.now + (g.I.Input.model.size c.args.input.now - c.in-Some.offsets.taken) = omega (arith, c.convert_rest.ensures.reads.delivered, c.finish.ensures.reads.bound.delivered) in
+    reads_rest _ c.in-Some.offsets _ _ (g.met.I.Input.sized k.1 c.args.input.now ∙ ap length (c.requires.1.1.1.1.1.0 k.1)) live.0.within continues bound

@@ -8,3 +8,6 @@ ghost-convert_rest g a = g.job
 
 abbrev pub ghost-finish : goal.ghost-finish
 ghost-finish g a = g.job
+
+abbrev pub ghost-publish_confirmed : goal.ghost-publish_confirmed
+ghost-publish_confirmed g a = g.job

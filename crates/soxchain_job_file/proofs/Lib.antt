@@ -1,0 +1,4 @@
+pub mod Comparing
+pub mod Splitting
+pub mod Versions
+pub mod Writing

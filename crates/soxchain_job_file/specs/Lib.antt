@@ -1,0 +1,4 @@
+pub mod Differences
+pub mod JobBytes
+pub mod Splits
+pub mod Versions

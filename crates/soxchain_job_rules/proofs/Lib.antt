@@ -1,0 +1,5 @@
+pub mod Apart
+pub mod Distinct
+pub mod Naming
+pub mod Paying
+pub mod Slash

@@ -1,0 +1,11 @@
+pub mod Advice
+pub mod Evidence
+pub mod JobNames
+pub mod Names
+pub mod NamesFault
+pub mod OutNames
+pub mod OwnFile
+pub mod Pace
+pub mod Places
+pub mod Sound
+pub mod Standing

@@ -1,0 +1,4 @@
+pub mod Fronts
+pub mod Stripes
+pub mod Taking
+pub mod Updating

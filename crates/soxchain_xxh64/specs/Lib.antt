@@ -1,0 +1,3 @@
+pub mod Hashing
+pub mod IsHashOf
+pub mod Xxh64
