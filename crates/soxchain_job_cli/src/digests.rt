@@ -10,6 +10,9 @@ use std::alloc::AllocError;
 /// The bytes of the digests that follow a frozen conversion: the XXH64 of what was taken, and of what was given.
 pub const FROZEN_SIZE: usize = 16;
 
+/// The bytes of a `FileDigest`.
+const FILE_SIZE: usize = 48;
+
 /// The bytes of the digests that follow the counts of a summary.
 pub const SUMMARY_SIZE: usize = 96;
 
@@ -24,6 +27,29 @@ pub struct FileDigest {
     pub xxh64: u64,
     /// Zeros where nobody asked for it.
     pub sha256: [u8; SHA256_SIZE],
+}
+
+impl FileDigest {
+    /// Its bytes: the size, the XXH64, and the SHA-256.
+    fn to_bytes(&self) -> [u8; FILE_SIZE] {
+        let mut bytes = [0; FILE_SIZE];
+        LittleEndian::write_u64(&mut bytes[..8], self.size);
+        LittleEndian::write_u64(&mut bytes[8..16], self.xxh64);
+        bytes[16..].copy_from_slice(&self.sha256);
+        bytes
+    }
+
+    /// The first of these bytes as `to_bytes` writes them.
+    fn of_bytes(bytes: &[u8]) -> Option<FileDigest> {
+        let (words, rest) = bytes.split_at_checked(16)?;
+        let mut sha256 = [0; SHA256_SIZE];
+        sha256.copy_from_slice(rest.get(..SHA256_SIZE)?);
+        Some(FileDigest {
+            size: LittleEndian::read_u64(&words[..8]),
+            xxh64: LittleEndian::read_u64(&words[8..]),
+            sha256,
+        })
+    }
 }
 
 /// What was hashed so far of a file.
@@ -108,6 +134,16 @@ pub struct Digests {
     pub output: FileDigest,
 }
 
+impl Digests {
+    /// Its bytes: those of the input, and those of the output.
+    fn to_bytes(&self) -> [u8; SUMMARY_SIZE] {
+        let mut bytes = [0; SUMMARY_SIZE];
+        bytes[..FILE_SIZE].copy_from_slice(&self.input.to_bytes());
+        bytes[FILE_SIZE..].copy_from_slice(&self.output.to_bytes());
+        bytes
+    }
+}
+
 impl Hashes {
     /// Nothing was hashed.
     pub fn new(with_sha256: bool) -> Hashes {
@@ -147,14 +183,7 @@ impl Hashes {
     pub fn append_to_summary(&self, bytes: &mut Vec<u8>) -> Result<(), AllocError>
         ensures { OnOk result (Appends SUMMARY_SIZE bytes.old.items bytes.new.items) }
     {
-        let Digests { input, output } = self.digests()?;
-        let mut digests = [0; SUMMARY_SIZE];
-        LittleEndian::write_u64(&mut digests[..8], input.size);
-        LittleEndian::write_u64(&mut digests[8..16], input.xxh64);
-        LittleEndian::write_u64(&mut digests[16..24], output.size);
-        LittleEndian::write_u64(&mut digests[24..32], output.xxh64);
-        digests[32..64].copy_from_slice(&input.sha256);
-        digests[64..].copy_from_slice(&output.sha256);
+        let digests = self.digests()?.to_bytes();
         bytes.extend_from_slice(&digests)
     }
 }
@@ -172,19 +201,10 @@ pub fn frozen_digests(frozen: &[u8]) -> Option<(u64, u64)> {
 /// The counts of a summary, and the digests that follow them.
 pub fn split_summary(summary: &[u8]) -> Option<(&[u8], Digests)> {
     let (counts, digests) = summary.split_at_checked(summary.len().checked_sub(SUMMARY_SIZE)?)?;
-    let (words, sha256) = digests.split_at(32);
-    let (first, second) = sha256.split_at(SHA256_SIZE);
-    let mut input = FileDigest {
-        size: LittleEndian::read_u64(&words[..8]),
-        xxh64: LittleEndian::read_u64(&words[8..16]),
-        sha256: [0; SHA256_SIZE],
+    let (input, output) = digests.split_at(FILE_SIZE);
+    let digests = Digests {
+        input: FileDigest::of_bytes(input)?,
+        output: FileDigest::of_bytes(output)?,
     };
-    let mut output = FileDigest {
-        size: LittleEndian::read_u64(&words[16..24]),
-        xxh64: LittleEndian::read_u64(&words[24..]),
-        sha256: [0; SHA256_SIZE],
-    };
-    input.sha256.copy_from_slice(first);
-    output.sha256.copy_from_slice(second);
-    Some((counts, Digests { input, output }))
+    Some((counts, digests))
 }
